@@ -1,0 +1,38 @@
+-- The numbers that bound the product, each named here and nowhere else.
+use Prim.Native.Nat.{ℕ, _+_, _-_, _*_}
+use mathlib.Core.Bool.{Bool, _&&_}
+use lib.Dec.{leb}
+
+-- "Units: 2 to 16, numbered from 0."
+abbrev pub unitLimit : ℕ
+unitLimit = 16
+
+abbrev pub legalCount : ℕ → Bool
+legalCount n = leb 2 n && leb n unitLimit
+
+-- "Link cost: 1 to 65,535"
+abbrev pub highestCost : ℕ
+highestCost = 65535
+
+abbrev pub legalCost : ℕ → Bool
+legalCost c = leb 1 c && leb c highestCost
+
+-- "A distance is unreachable, above all numbers": the largest number that a table's word holds.
+abbrev pub far : ℕ
+far = 4294967295
+
+-- "or at most 983,025 (15 links)"
+abbrev pub longest : ℕ
+longest = (unitLimit - 1) * highestCost
+
+-- "A queue for each direction of each link: first in, first out, at most 4 messages."
+abbrev pub queueRoom : ℕ
+queueRoom = 4
+
+-- "Length is exactly 4 plus 4 for each entry", and of entries there are at most the count less one.
+abbrev pub messageRoom : ℕ
+messageRoom = 4 + 4 * (unitLimit - 1)
+
+-- "The room asked for is 975 bytes": a message for each neighbour, "each after one byte with the neighbour's number".
+abbrev pub firmwareRoom : ℕ
+firmwareRoom = (unitLimit - 1) * (1 + messageRoom)

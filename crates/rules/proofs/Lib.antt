@@ -1,0 +1,2 @@
+-- The table of figures.
+pub mod Figures

@@ -1,0 +1,80 @@
+-- One unit as hub firmware uses it: calls with numbers and bytes, and the messages of an event in a lent buffer.
+use Prim.Native.Nat.{ℕ, _+_}
+use mathlib.Core.Bool.{Bool, not, _&&_, _||_}
+use mathlib.Core.List.{List, [], _∷_, _++_}
+use lib.Dec.{eqb, ltb}
+use lib.ListN.{length, getD, drop}
+use Rattle.ground.specs.Choice.{if_then_else_}
+use Rattle.ground.specs.Limits.{legalCount, legalCost, firmwareRoom}
+use Rattle.ground.specs.Refusal.{accepted, _gives_, _otherwise_}
+use Rattle.ground.specs.Rows.{at, tab, joined}
+use Rattle.rules.specs.Event.{Event, received, linkUp, newCost, linkDown, Reaction, messageRefusal}
+use Rattle.rules.specs.Message.{Message, written, messageOf, readable}
+use Rattle.rules.specs.Network.{badEnds}
+use Rattle.rules.specs.Unit.{Unit, isNeighbour}
+
+pub data HubCall : Type 0 where
+  hubUp : (to cost : ℕ) → HubCall
+  hubCost : (to cost : ℕ) → HubCall
+  hubDown : (to : ℕ) → HubCall
+  hubMessage : (from : ℕ) (bytes : List ℕ) → HubCall
+
+abbrev pub eventOf : HubCall → Event
+eventOf (hubUp to cost) = linkUp to cost
+eventOf (hubCost to cost) = newCost to cost
+eventOf (hubDown to) = linkDown to
+eventOf (hubMessage from bytes) = received (messageOf bytes)
+
+-- 7: "the firmware's (below 975)"
+abbrev pub tooShort : (room : ℕ) → Bool
+tooShort room = ltb room firmwareRoom
+
+-- The refusals of a unit whose tables are fit, over a buffer of the given room. "The firmware's entry for outside bytes
+-- meets 9 to 12"; 9: "message against the layout, or not from the neighbour it came by".
+unfoldable pub hubRefusal : Unit → (room : ℕ) → HubCall → ℕ
+hubRefusal u room (hubUp to cost) =
+    badEnds (u .count) (u .me) to gives 3
+    otherwise not (legalCost cost) gives 4
+    otherwise isNeighbour u to gives 5
+    otherwise tooShort room gives 7
+hubRefusal u room (hubCost to cost) =
+    badEnds (u .count) (u .me) to gives 3
+    otherwise not (legalCost cost) gives 4
+    otherwise not (isNeighbour u to) gives 6
+    otherwise tooShort room gives 7
+hubRefusal u room (hubDown to) =
+    badEnds (u .count) (u .me) to gives 3
+    otherwise not (isNeighbour u to) gives 6
+    otherwise tooShort room gives 7
+hubRefusal u room (hubMessage from bytes) =
+    badEnds (u .count) (u .me) from gives 3
+    otherwise not (isNeighbour u from) gives 6
+    otherwise tooShort room gives 7
+    otherwise not (readable (u .count) bytes && eqb (messageOf bytes .sender) from) gives 9
+    otherwise messageRefusal u (messageOf bytes)
+
+-- "The messages of an event, at most one for each neighbour, go into a lent buffer from its start, neighbours rising,
+-- each after one byte with the neighbour's number; the bytes after them stay."
+unfoldable pub outgoingTo : (k : ℕ) → List Message → List ℕ
+outgoingTo k [] = []
+outgoingTo k (m ∷ rest) = (k ∷ written m) ++ outgoingTo k rest
+
+unfoldable pub outgoing : Reaction → List ℕ
+outgoing r = joined (tab (r .unit .count) (λ k. outgoingTo k (getD (r .sent) k [])))
+
+abbrev pub outgoingLaid : Reaction → (buffer : List ℕ) → List ℕ
+outgoingLaid r buffer = outgoing r ++ drop (length (outgoing r)) buffer
+
+-- "An accepted event answers 100 plus the bytes used."
+abbrev pub hubAnswer : (refusal : ℕ) (value : ℕ) → ℕ
+hubAnswer refusal value = if eqb refusal accepted then 100 + value else refusal
+
+-- The fresh unit refuses 1 (count), 2 (length) and 3 (its own number); a question 2 and 3.
+abbrev pub hubFreshRefusal : (n me : ℕ) (rightLength : Bool) → ℕ
+hubFreshRefusal n me rightLength =
+    not (legalCount n) gives 1
+    otherwise not rightLength gives 2
+    otherwise not (ltb me n) gives 3
+
+abbrev pub hubQuestionRefusal : Unit → (to : ℕ) → ℕ
+hubQuestionRefusal u to = not (ltb to (u .count)) gives 3

@@ -1,4 +1,9 @@
--- Laws of the definitions in specs/, for the proofs of every crate.
+-- Laws of rows, tests and limits, and the pigeonhole.
+pub mod Filled
+pub mod Limits
+pub mod Lists
+pub mod Parts
 pub mod Pigeonhole
+pub mod Refusal
 pub mod Rows
 pub mod Tests

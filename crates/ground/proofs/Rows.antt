@@ -1,7 +1,8 @@
 -- Laws of the definitions in specs/Rows.antt: what a row made from a function holds, what a question over all units
 -- below a count tells of each, what the least and the lowest are, and that the test for equal lists tells the truth.
-use Prim.Native.Nat.{ℕ, zero, suc, _≤_, _<_, min}
+use Prim.Native.Nat.{ℕ, zero, suc, _+_, _≤_, _<_, min}
 use native.Mathlib.Nat.{eq-or-lt-of-le, le-of-suc-le-suc, not-suc-le-zero, lt-suc-self, le-refl}
+use native.Mathlib.Numerals.{add-one}
 use native.Mathlib.Omega.{arith}
 use mathlib.Core.Bool.{Bool, true, false, _&&_, _||_, true≢false, false≢true}
 use mathlib.Core.List.{List, [], _∷_, _++_}
@@ -204,3 +205,10 @@ eq-same xs ys e =
     both-of (eqb (length xs) (length ys)) (every (length xs) (λ i. eqb (at xs i) (at ys i)))
     (eq-eqb (length xs) (length ys) (ap length e))
     (every-of (length xs) (λ i. eqb (at xs i) (at ys i)) (λ i l. eq-eqb (at xs i) (at ys i) (ap (λ zs. at zs i) e)))
+
+-- One more turn of a loop that tests every unit; one unit that fails the test.
+pub every-more : (n : ℕ) (p : ℕ → Bool) → every n p ≡ true → p n ≡ true → every (n + 1) p ≡ true
+every-more n p all last = rw add-one (both-of (every n p) (p n) all last)
+
+pub every-not : (n : ℕ) (p : ℕ → Bool) (i : ℕ) → i < n → p i ≡ false → every n p ≡ false
+every-not n p i below bad = not-yes _ (λ all. not-both _ (every-at n p all i below) bad)

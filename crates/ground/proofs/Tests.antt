@@ -80,3 +80,11 @@ if-true false a b e = absurd (false≢true e)
 pub if-false {ℓ} : {A : Type ℓ} (t : Bool) (a b : A) → t ≡ false → (if t then a else b) ≡ b
 if-false true a b e = absurd (true≢false e)
 if-false false a b e = refl
+
+-- A test that fails makes the two of them fail.
+pub and-false : (a b : Bool) → b ≡ false → a && b ≡ false
+and-false true b e = e
+and-false false b e = refl
+
+pub and-no : (a : Bool) → a && false ≡ false
+and-no a = and-false a false refl

@@ -29,9 +29,13 @@ longest = (unitLimit - 1) * highestCost
 abbrev pub queueRoom : ℕ
 queueRoom = 4
 
--- "Length is exactly 4 plus 4 for each entry", and of entries there are at most the count less one.
+-- "number of entries, 0 to the count less one"
+abbrev pub entryLimit : ℕ
+entryLimit = unitLimit - 1
+
+-- "Length is exactly 4 plus 4 for each entry."
 abbrev pub messageRoom : ℕ
-messageRoom = 4 + 4 * (unitLimit - 1)
+messageRoom = 4 + 4 * entryLimit
 
 -- "The room asked for is 975 bytes": a message for each neighbour, "each after one byte with the neighbour's number".
 abbrev pub firmwareRoom : ℕ

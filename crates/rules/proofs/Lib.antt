@@ -1,2 +1,6 @@
--- The table of figures.
+-- The table of figures, and the laws of messages and tables: what is written or laid out reads back as itself.
 pub mod Figures
+pub mod Fit
+pub mod Laid
+pub mod Words
+pub mod Written

@@ -3,9 +3,10 @@ use Prim.Native.Nat.{ℕ, zero, suc, _+_, _-_, _*_, _/_, _%_}
 use mathlib.Core.Bool.{Bool, not, _&&_, _||_}
 use mathlib.Core.List.{List, [], _∷_, _++_, map}
 use lib.Dec.{eqb, ltb, leb}
-use lib.ListN.{length, set}
+use lib.ListN.{length, set, take, drop}
 use Rattle.ground.specs.Choice.{if_then_else_}
-use Rattle.ground.specs.Limits.{legalCost}
+use Rattle.ground.specs.Limits.{legalCost, legalCount}
+use Rattle.ground.specs.Refusal.{_gives_, _otherwise_}
 use Rattle.ground.specs.Rows.{at, tab, every}
 use Rattle.tree.specs.Tree.{nothing, headOf, costOf}
 
@@ -130,3 +131,23 @@ readable n bytes =
     eqb (at bytes 0) edition
     && eqb (length bytes) (writtenLength (at bytes 3))
     && legalMessage n (messageOf bytes)
+
+-- The reader's refusals: 1, "unit count not 2 to 16 (.. reader, writer)"; 9, "message against the layout".
+abbrev pub readRefusal : (n : ℕ) (bytes : List ℕ) → ℕ
+readRefusal n bytes = not (legalCount n) gives 1 otherwise not (readable n bytes) gives 9
+
+-- 7: "buffer too short: the writer's from its offset (4 plus 4 for each entry given) .. or an offset past the end"
+abbrev pub noRoom : (places offset entries : ℕ) → Bool
+noRoom places offset entries = ltb places offset || ltb (places - offset) (writtenLength entries)
+
+-- "The writer gives 9 for fields that the reader would refuse."
+abbrev pub writeRefusal : (n : ℕ) → Message → (places offset : ℕ) → ℕ
+writeRefusal n m places offset =
+    not (legalCount n) gives 1
+    otherwise noRoom places offset (length (m .changes)) gives 7
+    otherwise not (legalMessage n m) gives 9
+
+-- "The writer lays the message into the caller's frame buffer from a given offset onward .. and bytes before and after the
+-- message stay."
+abbrev pub messageLaid : Message → (frame : List ℕ) (offset : ℕ) → List ℕ
+messageLaid m frame offset = take offset frame ++ written m ++ drop (offset + length (written m)) frame

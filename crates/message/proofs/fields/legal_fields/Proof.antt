@@ -1,0 +1,66 @@
+-- `message::fields::legal_fields` meets its contract: each return rewrites the definition by the tests that led there.
+use Prim.Native.Nat.{ℕ, _-_, _≤_, _<_}
+use native.Mathlib.Omega.{arith}
+use mathlib.Core.Bool.{true, false}
+use mathlib.Core.Logic.{⊎-elim}
+use mathlib.Core.Path.{_≡_}
+use borrow.Author.Needs.{needs}
+use borrow.Author.Tests.{eq-eqb, ne-eqb, le-ltb, lt-ltb, le-leb, lt-leb}
+use lib.Dec.{leb}
+use Rattle.rules.specs.Message.{legalMessage}
+use Rattle.message.proofs.fields.legal_fields.Statement.{statement}
+use Rattle.message.proofs.fields.legal_fields.Tie as tie
+
+-- At most the count less one entries, or not.
+too-many : (entries count sender : ℕ) → sender < count → count ≤ entries → leb entries (count - 1) ≡ false
+too-many entries count sender some h = lt-leb entries (count - 1) (omega arith)
+
+few-enough : (entries count : ℕ) → entries < count → leb entries (count - 1) ≡ true
+few-enough entries count h = le-leb entries (count - 1) (omega arith)
+
+returns : tie.Need-returns
+unfolding legalMessage
+returns c = simp (le-ltb _ _ (c .if1 .taken))
+
+returns-2 : tie.Need-returns-2
+unfolding legalMessage
+returns-2 c = simp (lt-ltb _ _ (c .before .if1 .left), lt-leb _ _ (c .if2 .taken))
+
+returns-3 : tie.Need-returns-3
+unfolding legalMessage
+returns-3 c =
+    simp
+    (lt-ltb _ _ (c .before .before .if1 .left), le-leb _ _ (c .before .if2 .left), lt-leb _ _ (c .if3 .taken))
+
+returns-4 : tie.Need-returns-4
+unfolding legalMessage
+returns-4 c =
+    let some = c .before .before .before .if1 .left in
+    simp
+    (lt-ltb _ _ some, le-leb _ _ (c .before .before .if2 .left), le-leb _ _ (c .before .if3 .left), too-many _ _ _ some (c .if4 .taken))
+
+returns-5 : tie.Need-returns-5
+unfolding legalMessage
+returns-5 c =
+    let all = c .before .before in
+    simp
+    (lt-ltb _ _ (all .before .before .before .if1 .left), le-leb _ _ (all .before .before .if2 .left), le-leb _ _ (all .before .if3 .left), few-enough _ _ (all .if4 .left), lt-leb _ _ (c .before .if5 .taken), ne-eqb _ _ (c .if6 .taken))
+
+legal-changes-requires : tie.Need-legal-changes-requires
+legal-changes-requires c κs = search needs
+
+returns-6 : tie.Need-returns-6
+unfolding legalMessage
+returns-6 c =
+    let all = c .before .before in
+    simp
+    (lt-ltb _ _ (all .before .before .before .if1 .left), le-leb _ _ (all .before .before .if2 .left), le-leb _ _ (all .before .if3 .left), few-enough _ _ (all .if4 .left))
+    (⊎-elim
+    (λ w. simp (lt-leb _ _ (w .0 .taken), eq-eqb _ _ (w .1 .left)) (c .legal-changes .ensures))
+    (λ w. simp (le-leb _ _ (w .left)) (c .legal-changes .ensures))
+    (c .before .if5 .came))
+
+pub legal-fields-spec : {M : Type 1} → statement M
+legal-fields-spec =
+    tie.close
+    (tie.spec returns returns-2 returns-3 returns-4 returns-5 legal-changes-requires returns-6)

@@ -1,0 +1,101 @@
+-- `message::reader::read_framed` meets its contract: the fields that it finds are the message's, and they decide.
+use Prim.Native.Nat.{_≤_}
+use mathlib.Core.Bool.{false}
+use mathlib.Core.Path.{sym, _∙_}
+use borrow.Author.Needs.{needs}
+use borrow.Author.Tests.{not-true, not-false}
+use Rattle.ground.specs.Rows.{at}
+use Rattle.message.proofs.Readings.{too-many-entries, by-fields, found-length, by-found}
+use Rattle.message.proofs.reader.read_framed.Statement.{statement}
+use Rattle.message.proofs.reader.read_framed.Tie as tie
+
+shared-slice-read-wide : tie.Need-shared-slice-read-wide
+shared-slice-read-wide c = search needs
+
+wide-requires : tie.Need-wide-requires
+wide-requires c κs = search needs
+
+cast-entries : tie.Need-cast-entries
+cast-entries c = search needs
+
+refused-requires : tie.Need-refused-requires
+refused-requires c κs = search needs
+
+returns : tie.Need-returns
+returns c =
+    let start = c .before .before .before .before .before in
+    let many : start .args .count ≤ at (start .args .bytes .now) 3 = rw (c .before .before .wide .ensures .0) at (c .before .if1 .taken) in
+    c .refused .ensures ∙ sym (by-fields _ _ (start .pre) false (too-many-entries _ _ (start .pre .two) many))
+
+shared-slice-read-wide-2 : tie.Need-shared-slice-read-wide-2
+shared-slice-read-wide-2 c = search needs
+
+wide-requires-2 : tie.Need-wide-requires-2
+wide-requires-2 c κs = search needs
+
+shared-slice-read-wide-3 : tie.Need-shared-slice-read-wide-3
+shared-slice-read-wide-3 c = search needs
+
+wide-requires-3 : tie.Need-wide-requires-3
+wide-requires-3 c κs = search needs
+
+changes-in-requires : tie.Need-changes-in-requires
+changes-in-requires c κs = search needs
+
+array-share-prefix-changes : tie.Need-array-share-prefix-changes
+array-share-prefix-changes c = search needs
+
+slice-aggregate-legal-fields : tie.Need-slice-aggregate-legal-fields
+slice-aggregate-legal-fields c = found-length _ _ _ (c .before .changes-in .ensures)
+
+legal-fields-requires : tie.Need-legal-fields-requires
+legal-fields-requires c κs = search needs
+
+refused-requires-2 : tie.Need-refused-requires-2
+refused-requires-2 c κs = search needs
+
+returns-2 : tie.Need-returns-2
+returns-2 c =
+    let at-wide3 = c .before .before .before .before .before in
+    let at-wide2 = at-wide3 .before .before in
+    let at-wide = at-wide2 .before .before .before in
+    let start = at-wide .before .before .before in
+    c .refused2 .ensures
+    ∙ sym
+    (by-found _ _ _ _ _ _ (at-wide2 .wide2 .ensures .0) (at-wide3 .wide3 .ensures .0) (at-wide .wide .ensures .0)
+    (c .before .before .before .before .changes-in .ensures)
+    (start .pre)
+    (sym (not-true _ (c .before .if2 .taken)) ∙ c .before .before .legal-fields .ensures))
+
+returns-3 : tie.Need-returns-3
+returns-3 c =
+    let at-wide3 = c .before .before .before .before in
+    let at-wide2 = at-wide3 .before .before in
+    let at-wide = at-wide2 .before .before .before in
+    let start = at-wide .before .before .before in
+    sym
+    (by-found _ _ _ _ _ _ (at-wide2 .wide2 .ensures .0) (at-wide3 .wide3 .ensures .0) (at-wide .wide .ensures .0)
+    (c .before .before .before .changes-in .ensures)
+    (start .pre)
+    (sym (not-false _ (c .if2 .left)) ∙ c .before .legal-fields .ensures))
+
+pub read-framed-spec : {M : Type 1} → statement M
+read-framed-spec =
+    tie.close
+    (tie.spec
+    shared-slice-read-wide
+    wide-requires
+    cast-entries
+    refused-requires
+    returns
+    shared-slice-read-wide-2
+    wide-requires-2
+    shared-slice-read-wide-3
+    wide-requires-3
+    changes-in-requires
+    array-share-prefix-changes
+    slice-aggregate-legal-fields
+    legal-fields-requires
+    refused-requires-2
+    returns-2
+    returns-3)

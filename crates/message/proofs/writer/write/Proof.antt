@@ -1,0 +1,79 @@
+-- `message::writer::write` meets its contract: what it refuses it leaves alone, and what it does not refuse has room.
+use Prim.Native.Nat.{_-_}
+use mathlib.Core.Path.{sym, ap, _∙_}
+use borrow.Author.Needs.{needs}
+use borrow.Rule.Slice.PartMut.{putMid}
+use lib.ListN.{length, length-drop}
+use Rattle.ground.proofs.Parts.{to-end}
+use Rattle.message.specs.Fields.{fieldsOf}
+use Rattle.message.proofs.Writings.{Writable, writable, laid-in-frame, refused-writing, accepted-writing}
+use Rattle.message.proofs.writer.lay.Reads as lay-reads
+use Rattle.message.proofs.writer.refusal.Reads as refusal-reads
+use Rattle.message.proofs.writer.write.Lts as lts
+use Rattle.message.proofs.writer.write.Reads as reads
+use Rattle.message.proofs.writer.write.Statement.{statement}
+use Rattle.message.proofs.writer.write.Tie as tie
+
+-- Once the refusal is 0, the message fits.
+free : (c : lts.Else1 (refusal-reads.Asked, refusal-reads.Learnt, lay-reads.Asked, lay-reads.Learnt) reads.Pre reads.Post)
+    → Writable
+    (fieldsOf (c .before .before .before .before .args .kind) (c .before .before .before .before .args .sender) (c .before .before .before .before .args .changes .now))
+    (length (c .before .before .before .before .args .frame .now))
+    (c .before .before .before .before .args .offset)
+free c = writable (c .before .before .before .before .args .count) _ _ _ (sym (c .before .refusal .ensures) ∙ c .if1 .left)
+
+refusal-requires : tie.Need-refusal-requires
+refusal-requires c κs = search needs
+
+returns : tie.Need-returns
+returns c =
+    let args = c .before .before .before .before .args in
+    refused-writing _ (fieldsOf (args .kind) (args .sender) (args .changes .now)) (args .frame .now) _ _ (c .before .refusal .ensures) (c .if1 .taken)
+
+sub-lay : tie.Need-sub-lay
+sub-lay c = free c .inside
+
+part-lay-start : tie.Need-part-lay-start
+part-lay-start c = free c .inside
+
+part-lay-end : tie.Need-part-lay-end
+part-lay-end c = search needs
+
+lay-requires : tie.Need-lay-requires
+lay-requires c κs =
+    let args = c .before .before .before .before .before .args in
+    let can = free (c .before) in
+    (can .fitting, rw (to-end (args .frame .now) (args .offset), length-drop) (can .room))
+
+mul-t14 : tie.Need-mul-t14
+mul-t14 c = search needs
+
+add-t15 : tie.Need-add-t15
+add-t15 c = search needs
+
+same-length : tie.Need-same-length
+same-length c = search needs
+
+returns-2 : tie.Need-returns-2
+returns-2 c =
+    let tested = c .before .before .before .before in
+    let args = tested .before .before .before .before .args in
+    let m = fieldsOf (args .kind) (args .sender) (args .changes .now) in
+    accepted-writing _ m (args .frame .now) _ _
+    (sym (tested .before .refusal .ensures) ∙ tested .if1 .left)
+    (ap (putMid (args .offset) (length (args .frame .now) - args .offset) (args .frame .now)) (c .before .before .lay .ensures) ∙ laid-in-frame m (args .frame .now) (args .offset))
+
+pub write-spec : {M : Type 1} → statement M
+write-spec =
+    tie.close
+    (tie.spec
+    refusal-requires
+    returns
+    sub-lay
+    part-lay-start
+    part-lay-end
+    lay-requires
+    mul-t14
+    add-t15
+    same-length
+    returns-2)

@@ -1,0 +1,4 @@
+-- What the reader and the writer answer.
+pub mod Fields
+pub mod Reading
+pub mod Writing

@@ -1,0 +1,489 @@
+//! Scripts made up from a seed.
+//!
+//! A generated script is mostly legal: the generator answers each of its lines
+//! itself, so it knows which links are up and which queues hold messages.
+//! Between the legal lines stand illegal and malformed ones. What the script is
+//! made of (shape and size of the network, costs, order of deliveries, what
+//! happens how often) is drawn once for each network.
+
+use crate::malformed;
+use crate::network::Network;
+use crate::rng::Rng;
+use crate::script::Runner;
+use crate::shapes::{self, Pair, Shape, SHAPES};
+use crate::tree::UnitNumber;
+use std::io;
+
+/// Where link costs come from.
+#[derive(Clone, Copy, Debug)]
+enum Costs {
+    /// One and the same, for ties everywhere.
+    Equal(u32),
+    /// From 1 to 4, for many ties.
+    Small,
+    /// From 1 to 65,535, with both ends drawn often.
+    Whole,
+    /// Only the ends of the range and what is next to them.
+    Ends,
+}
+
+/// Which queue a delivery takes.
+#[derive(Clone, Copy, Debug)]
+enum Order {
+    /// Any.
+    Random,
+    /// The one with the lowest sender.
+    LowestFirst,
+    /// The one with the highest sender.
+    HighestFirst,
+    /// Any but those to and from one unit, which must wait for the others.
+    Starving(UnitNumber),
+}
+
+/// What happens next.
+#[derive(Clone, Copy, Debug)]
+enum Action {
+    Deliver,
+    Drain,
+    Event,
+    Burst,
+    LinkFlap,
+    CostFlap,
+    Illegal,
+    Malformed,
+    Show,
+    Restart,
+}
+
+/// How often each action comes, in parts of the sum.
+type Weights = [(Action, u32); 10];
+
+/// The weights for most lines being deliveries, with `faults` parts of illegal
+/// and of malformed lines and `storms` parts of bursts and flaps.
+fn weights(deliveries: u32, storms: u32, faults: u32) -> Weights {
+    [
+        (Action::Deliver, deliveries),
+        (Action::Drain, 4),
+        (Action::Event, 14),
+        (Action::Burst, storms),
+        (Action::LinkFlap, storms),
+        (Action::CostFlap, storms),
+        (Action::Illegal, faults),
+        (Action::Malformed, faults),
+        (Action::Show, 7),
+        (Action::Restart, 1),
+    ]
+}
+
+/// What is drawn once for each network.
+struct Plan {
+    count: u8,
+    pairs: Vec<Pair>,
+    costs: Costs,
+    order: Order,
+    weights: Weights,
+}
+
+impl Plan {
+    fn draw(rng: &mut Rng) -> Plan {
+        let count = match rng.between(0, 9) {
+            0..=2 => rng.between(2, 4),
+            3..=6 => rng.between(3, 8),
+            _ => rng.between(2, 16),
+        } as u8;
+        let shape = *rng.pick(&SHAPES).unwrap_or(&Shape::Mesh);
+        Plan {
+            count,
+            pairs: shapes::pairs(shape, count, rng),
+            costs: draw_costs(rng),
+            order: draw_order(count, rng),
+            weights: draw_weights(rng),
+        }
+    }
+}
+
+fn draw_costs(rng: &mut Rng) -> Costs {
+    match rng.between(0, 11) {
+        0 | 1 => Costs::Equal(1),
+        2 => Costs::Equal(65_535),
+        3 => Costs::Equal(rng.between(1, 65_535)),
+        4..=7 => Costs::Small,
+        8 | 9 => Costs::Whole,
+        _ => Costs::Ends,
+    }
+}
+
+fn draw_order(count: u8, rng: &mut Rng) -> Order {
+    match rng.between(0, 5) {
+        0 => Order::LowestFirst,
+        1 => Order::HighestFirst,
+        2 => Order::Starving(rng.between(0, u32::from(count) - 1) as UnitNumber),
+        _ => Order::Random,
+    }
+}
+
+fn draw_weights(rng: &mut Rng) -> Weights {
+    match rng.between(0, 4) {
+        0 => weights(150, 1, 1),
+        1 => weights(40, 12, 2),
+        2 => weights(40, 3, 20),
+        _ => weights(70, 4, 4),
+    }
+}
+
+/// A script under way.
+struct Generator {
+    rng: Rng,
+    plan: Plan,
+    runner: Runner,
+    script: Vec<u8>,
+    lines: usize,
+    goal: usize,
+}
+
+/// The script of a seed, of as many lines as asked for or, if none are asked
+/// for, of 20 to 600. Some scripts end without a line's end.
+pub fn script(seed: u64, lines: Option<usize>) -> Vec<u8> {
+    let mut rng = Rng::new(seed);
+    let drawn = rng.between(20, 600) as usize;
+    let plan = Plan::draw(&mut rng);
+    let mut generator = Generator {
+        rng,
+        plan,
+        runner: Runner::default(),
+        script: Vec::new(),
+        lines: 0,
+        goal: lines.unwrap_or(drawn),
+    };
+    generator.prologue();
+    generator.start_network();
+    while !generator.is_done() {
+        generator.act();
+    }
+    if generator.rng.chance(20) {
+        generator.script.pop();
+    }
+    generator.script
+}
+
+impl Generator {
+    fn is_done(&self) -> bool {
+        self.lines >= self.goal
+    }
+
+    /// Adds a line, if there is room, and answers it for the own knowledge.
+    fn line(&mut self, line: impl AsRef<[u8]>) {
+        if self.is_done() {
+            return;
+        }
+        let line = line.as_ref();
+        // A sink takes everything, so there is no error to be seen.
+        let _ = self.runner.answer(line, &mut io::sink());
+        self.script.extend(line);
+        self.script.push(b'\n');
+        self.lines += 1;
+    }
+
+    fn network(&self) -> Option<&Network> {
+        self.runner.network()
+    }
+
+    /// Commands before any `units`, in some scripts.
+    fn prologue(&mut self) {
+        if !self.rng.chance(25) {
+            return;
+        }
+        for _ in 0..self.rng.between(1, 6) {
+            let line = match self.rng.between(0, 3) {
+                0 => malformed::line(&mut self.rng),
+                1 => self.refused_units().into_bytes(),
+                _ => self.any_command().into_bytes(),
+            };
+            self.line(line);
+        }
+    }
+
+    /// A fresh network with the links of the plan, which come up at once or
+    /// with deliveries between.
+    fn start_network(&mut self) {
+        self.line(format!("units {}", self.plan.count));
+        let deliveries_between = self.rng.chance(50);
+        for (a, b) in self.plan.pairs.clone() {
+            self.bring_up(a, b);
+            if deliveries_between {
+                for _ in 0..self.rng.between(0, 3) {
+                    self.deliver();
+                }
+            }
+        }
+        if self.rng.chance(50) {
+            self.drain();
+        }
+    }
+
+    /// One action, drawn by the weights.
+    fn act(&mut self) {
+        let sum: u32 = self.plan.weights.iter().map(|(_, weight)| weight).sum();
+        let mut left = self.rng.between(0, sum - 1);
+        for (action, weight) in self.plan.weights {
+            if left < weight {
+                return self.perform(action);
+            }
+            left -= weight;
+        }
+    }
+
+    fn perform(&mut self, action: Action) {
+        match action {
+            Action::Deliver => self.deliver(),
+            Action::Drain => self.drain(),
+            Action::Event => self.event(),
+            Action::Burst => (0..self.rng.between(3, 20)).for_each(|_| self.event()),
+            Action::LinkFlap => self.link_flap(),
+            Action::CostFlap => self.cost_flap(),
+            Action::Illegal => {
+                let line = self.illegal();
+                self.line(line);
+            }
+            Action::Malformed => {
+                let line = malformed::line(&mut self.rng);
+                self.line(line);
+            }
+            Action::Show => self.line("show"),
+            Action::Restart => self.restart(),
+        }
+    }
+
+    /// Another network, or the same number of units afresh, or a refused
+    /// `units` that leaves all as it is.
+    fn restart(&mut self) {
+        if self.rng.chance(40) {
+            let line = self.refused_units();
+            return self.line(line);
+        }
+        if self.rng.chance(70) {
+            self.plan = Plan::draw(&mut self.rng);
+        }
+        self.start_network();
+    }
+
+    /// A delivery from a queue that holds something; an event if none does.
+    fn deliver(&mut self) {
+        match self.some_queue() {
+            Some((from, to)) => self.line(format!("deliver {from} {to}")),
+            None => self.event(),
+        }
+    }
+
+    /// Deliveries until all queues are empty, mostly followed by `show`.
+    fn drain(&mut self) {
+        while let Some((from, to)) = self.some_queue() {
+            if self.is_done() {
+                return;
+            }
+            self.line(format!("deliver {from} {to}"));
+        }
+        if self.rng.chance(70) {
+            self.line("show");
+        }
+    }
+
+    /// A queue that holds something, by the plan's order.
+    fn some_queue(&mut self) -> Option<Pair> {
+        let queues = self.network()?.queues.waiting();
+        let all: Vec<Pair> = queues.map(|(from, to, _)| (from, to)).collect();
+        match self.plan.order {
+            Order::Random => self.rng.pick(&all).copied(),
+            Order::LowestFirst => all.first().copied(),
+            Order::HighestFirst => all.last().copied(),
+            Order::Starving(unit) => {
+                let others = all.iter().filter(|(a, b)| *a != unit && *b != unit);
+                let others: Vec<Pair> = others.copied().collect();
+                self.rng.pick(&others).or(all.first()).copied()
+            }
+        }
+    }
+
+    /// A legal event without a message: a cost change mostly, else a link up or
+    /// down, mostly one of the plan's.
+    fn event(&mut self) {
+        let links = self.pairs_where(true);
+        if let (Some(&(a, b)), true) = (self.rng.pick(&links), self.rng.chance(60)) {
+            let cost = self.draw_cost();
+            return self.line(format!("cost {a} {b} {cost}"));
+        }
+        let known = self.rng.pick(&self.plan.pairs).copied();
+        let (a, b) = match known {
+            Some(pair) if self.rng.chance(85) => pair,
+            _ => self.any_pair(),
+        };
+        match self.network() {
+            Some(network) if network.is_up(a, b) => self.line(format!("down {a} {b}")),
+            _ => self.bring_up(a, b),
+        }
+    }
+
+    /// A link down and up again several times, with few deliveries between.
+    fn link_flap(&mut self) {
+        let links = self.pairs_where(true);
+        let Some(&(a, b)) = self.rng.pick(&links) else {
+            return self.event();
+        };
+        for _ in 0..self.rng.between(1, 5) {
+            self.line(format!("down {a} {b}"));
+            self.perhaps_deliver();
+            self.bring_up(a, b);
+            self.perhaps_deliver();
+        }
+    }
+
+    /// A cost to and fro between two values, with few deliveries between; now
+    /// and then the same cost again.
+    fn cost_flap(&mut self) {
+        let links = self.pairs_where(true);
+        let Some(&(a, b)) = self.rng.pick(&links) else {
+            return self.event();
+        };
+        let (one, other) = (self.draw_cost(), self.rng.between(1, 65_535));
+        for _ in 0..self.rng.between(2, 8) {
+            let cost = if self.rng.chance(50) { one } else { other };
+            self.line(format!("cost {a} {b} {cost}"));
+            self.perhaps_deliver();
+        }
+    }
+
+    fn perhaps_deliver(&mut self) {
+        if self.rng.chance(40) {
+            self.deliver();
+        }
+    }
+
+    /// A link up at costs of the plan, named from either end, the two
+    /// directions alike in half of the cases.
+    fn bring_up(&mut self, a: UnitNumber, b: UnitNumber) {
+        let (a, b) = if self.rng.chance(50) { (a, b) } else { (b, a) };
+        let one = self.draw_cost();
+        let other = self.draw_cost();
+        let back = if self.rng.chance(50) { one } else { other };
+        self.line(format!("up {a} {b} {one} {back}"));
+    }
+
+    fn draw_cost(&mut self) -> u32 {
+        match self.plan.costs {
+            Costs::Equal(cost) if self.rng.chance(95) => cost,
+            Costs::Equal(_) | Costs::Small => self.rng.between(1, 4),
+            Costs::Whole => match self.rng.between(0, 9) {
+                0 => 1,
+                1 => 65_535,
+                _ => self.rng.between(1, 65_535),
+            },
+            Costs::Ends => *self.rng.pick(&[1, 2, 65_534, 65_535]).unwrap_or(&1),
+        }
+    }
+
+    /// Two different units of the present network or, before it, of the plan.
+    fn any_pair(&mut self) -> Pair {
+        let count = self.network().map_or(self.plan.count, Network::count);
+        let a = self.rng.between(0, u32::from(count) - 1) as UnitNumber;
+        let step = self.rng.between(1, u32::from(count) - 1) as UnitNumber;
+        (a, (a + step) % count)
+    }
+
+    /// All ordered pairs of different units whose link is up, or is down.
+    fn pairs_where(&self, up: bool) -> Vec<Pair> {
+        let Some(network) = self.network() else {
+            return Vec::new();
+        };
+        let count = network.count();
+        let all = (0..count).flat_map(|a| (0..count).map(move |b| (a, b)));
+        all.filter(|&(a, b)| a != b && network.is_up(a, b) == up)
+            .collect()
+    }
+
+    /// Ordered pairs whose link is up and whose queue is empty.
+    fn pairs_with_empty_queue(&self) -> Vec<Pair> {
+        let mut pairs = self.pairs_where(true);
+        if let Some(network) = self.network() {
+            pairs.retain(|&(a, b)| network.queues.queue(a, b).is_empty());
+        }
+        pairs
+    }
+
+    /// A command that is refused, with each number that a script can meet.
+    fn illegal(&mut self) -> String {
+        let up = self.pairs_where(true);
+        let down = self.pairs_where(false);
+        let empty = self.pairs_with_empty_queue();
+        let drawn = match self.rng.between(1, 8) {
+            1 => Some(self.refused_units()),
+            2 => Some(self.bad_unit()),
+            3 => Some(self.bad_cost()),
+            4 => self.rng.pick(&up).map(|(a, b)| format!("up {a} {b} 1 1")),
+            5 => self.rng.pick(&down).map(|(a, b)| format!("cost {a} {b} 1")),
+            6 => self.rng.pick(&down).map(|(a, b)| format!("down {a} {b}")),
+            7 => {
+                let unlinked = if self.rng.chance(50) { &down } else { &empty };
+                let pair = self.rng.pick(unlinked);
+                pair.map(|(a, b)| format!("deliver {a} {b}"))
+            }
+            _ => None,
+        };
+        drawn.unwrap_or_else(|| self.any_command())
+    }
+
+    /// `units` with a count that is refused.
+    fn refused_units(&mut self) -> String {
+        let counts = [0, 1, 17, 18, 32, 255, 256, 258, 65_538, 999_999_999];
+        format!("units {}", self.rng.pick(&counts).unwrap_or(&0))
+    }
+
+    /// A unit number that is too great, or two equal ends.
+    fn bad_unit(&mut self) -> String {
+        let (a, b) = self.any_pair();
+        let count = self.network().map_or(16, |network| network.count().into());
+        let greater = [count, count + 1, 16, 255, 256, 257, 999_999_999];
+        let great = *self.rng.pick(&greater).unwrap_or(&count);
+        let (a, b) = match self.rng.between(0, 3) {
+            0 => (u32::from(a), u32::from(a)),
+            1 => (great, u32::from(b)),
+            2 => (u32::from(a), great),
+            _ => (great, great),
+        };
+        self.command_about(a, b, 1)
+    }
+
+    /// A cost that is refused, for any two units, whether linked or not.
+    fn bad_cost(&mut self) -> String {
+        let (a, b) = self.any_pair();
+        let costs = [0, 65_536, 65_537, 131_071, 999_999_999];
+        let bad = *self.rng.pick(&costs).unwrap_or(&0);
+        match self.rng.between(0, 2) {
+            0 => format!("up {a} {b} {bad} 1"),
+            1 => format!("up {a} {b} 1 {bad}"),
+            _ => format!("cost {a} {b} {bad}"),
+        }
+    }
+
+    /// A well-formed command of numbers that lie at borders, so that several
+    /// refusals may apply at once, or none.
+    fn any_command(&mut self) -> String {
+        let units = [0, 1, 2, 3, 15, 16, 17, 256, 999_999_999];
+        let costs = [0, 1, 2, 65_535, 65_536, 999_999_999];
+        let a = *self.rng.pick(&units).unwrap_or(&0);
+        let b = *self.rng.pick(&units).unwrap_or(&0);
+        let cost = *self.rng.pick(&costs).unwrap_or(&0);
+        if self.rng.chance(15) {
+            return "show".to_string();
+        }
+        self.command_about(a, b, cost)
+    }
+
+    fn command_about(&mut self, a: u32, b: u32, cost: u32) -> String {
+        match self.rng.between(0, 3) {
+            0 => format!("up {a} {b} {cost} {}", self.draw_cost()),
+            1 => format!("cost {a} {b} {cost}"),
+            2 => format!("down {a} {b}"),
+            _ => format!("deliver {a} {b}"),
+        }
+    }
+}

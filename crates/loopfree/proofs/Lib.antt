@@ -1,0 +1,19 @@
+-- That MPDA never routes in a circle.
+pub mod Calls
+pub mod Cases
+pub mod Differences
+pub mod Ends
+pub mod Events
+pub mod Exchange
+pub mod Feasible
+pub mod Following
+pub mod Invariant
+pub mod Kept
+pub mod NoCircle
+pub mod Reaction
+pub mod Recomputed
+pub mod Sent
+pub mod Shape
+pub mod Sound
+pub mod Tracing
+pub mod Trees

@@ -2,7 +2,7 @@
 -- that counts up runs, so that one more turn of the loop is one more step of the definition.
 use Prim.Native.Nat.{ℕ, zero, suc, _+_, _-_, _^_, min}
 use mathlib.Core.Bool.{Bool, true, false, _&&_, _||_}
-use mathlib.Core.List.{List, [], _∷_, _++_}
+use mathlib.Core.List.{List, [], _∷_, _++_, map}
 use lib.Dec.{eqb, ltb}
 use lib.ListN.{length, getD, replicate}
 use Rattle.ground.specs.Choice.{if_then_else_}
@@ -62,3 +62,7 @@ joined (xs ∷ rest) = xs ++ joined rest
 
 abbrev pub filled : ℕ → List ℕ → List ℕ
 filled m xs = xs ++ zeros (m - length xs)
+
+-- Rows filled up with zeros to m places, and with rows of zeros to m rows.
+abbrev pub filledRows : ℕ → List (List ℕ) → List (List ℕ)
+filledRows m rows = map (filled m) rows ++ replicate (m - length rows) (zeros m)

@@ -1,4 +1,6 @@
 -- Laws that several proofs of this crate cite.
+pub mod Borders
 pub mod Readings
 pub mod Rising
+pub mod RoundTrip
 pub mod Writings

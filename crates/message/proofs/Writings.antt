@@ -130,15 +130,29 @@ pub record Writable (m : Message) (places offset : ℕ) : Type 0 where
   pub inside : offset ≤ places
   pub room : 4 + 4 * length (m .changes) ≤ places - offset
 
-pub writable : (n : ℕ) (m : Message) (places offset : ℕ) → writeRefusal n m places offset ≡ accepted → Writable m places offset
-writable n m places offset e =
+-- What no refusal tells: the count is legal, there is room, and the fields are legal.
+pub record Unrefused (n : ℕ) (m : Message) (places offset : ℕ) : Type 0 where
+  pub count : legalCount n ≡ true
+  pub space : noRoom places offset (length (m .changes)) ≡ false
+  pub fields : legalMessage n m ≡ true
+
+pub unrefused : (n : ℕ) (m : Message) (places offset : ℕ) → writeRefusal n m places offset ≡ accepted → Unrefused n m places offset
+unrefused n m places offset e =
     let later = noRoom places offset (length (m .changes)) gives 7 otherwise not (legalMessage n m) gives 9 in
     let first = otherwise-none (not (legalCount n) gives 1) later e in
     let rest = otherwise-none (noRoom places offset (length (m .changes)) gives 7) (not (legalMessage n m) gives 9) (first .1) in
-    let count = not-false (legalCount n) (gives-none (not (legalCount n)) 0 (first .0)) in
-    let room = neither (ltb places offset) _ (gives-none (noRoom places offset (length (m .changes))) 6 (rest .0)) in
-    let legal = legal-of n m (not-false (legalMessage n m) (gives-none (not (legalMessage n m)) 8 (rest .1))) in
-    let most = leb-true n unitLimit (both (leb 2 n) (leb n unitLimit) count .1) in
+    record {
+      count = not-false (legalCount n) (gives-none (not (legalCount n)) 0 (first .0));
+      space = gives-none (noRoom places offset (length (m .changes))) 6 (rest .0);
+      fields = not-false (legalMessage n m) (gives-none (not (legalMessage n m)) 8 (rest .1));
+    }
+
+pub writable : (n : ℕ) (m : Message) (places offset : ℕ) → writeRefusal n m places offset ≡ accepted → Writable m places offset
+writable n m places offset e =
+    let tests = unrefused n m places offset e in
+    let room = neither (ltb places offset) _ (tests .space) in
+    let legal = legal-of n m (tests .fields) in
+    let most = leb-true n unitLimit (both (leb 2 n) (leb n unitLimit) (tests .count) .1) in
     record {
       fitting = record { small-kind = omega arith; small-sender = omega arith; few = omega arith };
       inside = ltb-false places offset (room .0);

@@ -1,4 +1,5 @@
 -- What the reader and the writer answer.
+pub mod Border
 pub mod Fields
 pub mod Reading
 pub mod Writing

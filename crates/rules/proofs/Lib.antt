@@ -1,6 +1,9 @@
 -- The table of figures, and the laws of messages and tables: what is written or laid out reads back as itself.
+pub mod Applied
 pub mod Figures
 pub mod Fit
+pub mod FitUnit
 pub mod Laid
+pub mod Noted
 pub mod Words
 pub mod Written

@@ -5,13 +5,14 @@ use mathlib.Core.List.{List, [], _∷_, _++_}
 use lib.Dec.{eqb, ltb}
 use lib.ListN.{length, getD, drop}
 use Rattle.ground.specs.Choice.{if_then_else_}
-use Rattle.ground.specs.Limits.{legalCount, legalCost, firmwareRoom}
+use Rattle.ground.specs.Limits.{legalCount, legalCost, firmwareRoom, far}
 use Rattle.ground.specs.Refusal.{accepted, _gives_, _otherwise_}
 use Rattle.ground.specs.Rows.{at, tab, joined}
-use Rattle.rules.specs.Event.{Event, received, linkUp, newCost, linkDown, Reaction, messageRefusal}
+use Rattle.rules.specs.Event.{Event, received, linkUp, newCost, linkDown, Reaction, reaction, messageRefusal}
 use Rattle.rules.specs.Message.{Message, written, messageOf, readable}
 use Rattle.rules.specs.Network.{badEnds}
-use Rattle.rules.specs.Unit.{Unit, isNeighbour}
+use Rattle.rules.specs.Tables.{unitWords, laidUnit, unitFrom, fitUnitTable}
+use Rattle.rules.specs.Unit.{Unit, freshUnit, isNeighbour, isActive, ownDistance, successorSet}
 
 pub data HubCall : Type 0 where
   hubUp : (to cost : ℕ) → HubCall
@@ -78,3 +79,53 @@ hubFreshRefusal n me rightLength =
 
 abbrev pub hubQuestionRefusal : Unit → (to : ℕ) → ℕ
 hubQuestionRefusal u to = not (ltb to (u .count)) gives 3
+
+-- The same over a unit's table of numbers: 2 where it is not fit, then the others; and what the call leaves.
+unfoldable pub tableRefusal : (words : List ℕ) (room : ℕ) → HubCall → ℕ
+tableRefusal words room call =
+    not (fitUnitTable words) gives 2 otherwise hubRefusal (unitFrom words) room call
+
+abbrev pub tableReaction : (words : List ℕ) → HubCall → Reaction
+tableReaction words call = reaction (unitFrom words) (eventOf call)
+
+unfoldable pub tableAnswer : (words : List ℕ) (room : ℕ) → HubCall → ℕ
+tableAnswer words room call = hubAnswer (tableRefusal words room call) (length (outgoing (tableReaction words call)))
+
+unfoldable pub tableAfter : (words : List ℕ) (room : ℕ) → HubCall → List ℕ
+tableAfter words room call =
+    if eqb (tableRefusal words room call) accepted then laidUnit (tableReaction words call .unit) else words
+
+unfoldable pub bufferAfter : (words buffer : List ℕ) → HubCall → List ℕ
+bufferAfter words buffer call =
+    if eqb (tableRefusal words (length buffer) call) accepted then outgoingLaid (tableReaction words call) buffer else buffer
+
+-- The fresh unit's table.
+unfoldable pub freshTableAnswer : (words : List ℕ) (n me : ℕ) → ℕ
+freshTableAnswer words n me = hubAnswer (hubFreshRefusal n me (eqb (length words) unitWords)) 0
+
+unfoldable pub freshTable : (words : List ℕ) (n me : ℕ) → List ℕ
+freshTable words n me =
+    if eqb (hubFreshRefusal n me (eqb (length words) unitWords)) accepted then laidUnit (freshUnit n me) else words
+
+-- Questions to a table, which change nothing: 2, then 3 for a destination that is no unit, else 100 plus the value, and the
+-- largest number for unreachable.
+abbrev pub reachable : (distance : ℕ) → ℕ
+reachable distance = if eqb distance far then far else 100 + distance
+
+unfoldable pub activeAnswer : (words : List ℕ) → ℕ
+activeAnswer words = hubAnswer (not (fitUnitTable words) gives 2) (if isActive (unitFrom words) then 1 else 0)
+
+abbrev pub questionRefusal : (words : List ℕ) (to : ℕ) → ℕ
+questionRefusal words to = not (fitUnitTable words) gives 2 otherwise hubQuestionRefusal (unitFrom words) to
+
+unfoldable pub distanceAnswer : (words : List ℕ) (to : ℕ) → ℕ
+distanceAnswer words to =
+    if eqb (questionRefusal words to) accepted then reachable (ownDistance (unitFrom words) to) else questionRefusal words to
+
+unfoldable pub feasibleAnswer : (words : List ℕ) (to : ℕ) → ℕ
+feasibleAnswer words to =
+    if eqb (questionRefusal words to) accepted then reachable (at (unitFrom words .feasible) to)
+    else questionRefusal words to
+
+unfoldable pub successorsAnswer : (words : List ℕ) (to : ℕ) → ℕ
+successorsAnswer words to = hubAnswer (questionRefusal words to) (successorSet (unitFrom words) to)

@@ -1,10 +1,10 @@
 -- `message::writer::write` meets its contract: what it refuses it leaves alone, and what it does not refuse has room.
 use Prim.Native.Nat.{_-_}
+use native.Mathlib.Omega.{arith}
 use mathlib.Core.Path.{sym, ap, _∙_}
 use borrow.Author.Needs.{needs}
 use borrow.Rule.Slice.PartMut.{putMid}
-use lib.ListN.{length, length-drop}
-use Rattle.ground.proofs.Parts.{to-end}
+use lib.ListN.{length, length-take, length-drop}
 use Rattle.message.specs.Fields.{fieldsOf}
 use Rattle.message.proofs.Writings.{Writable, writable, laid-in-frame, refused-writing, accepted-writing}
 use Rattle.message.proofs.writer.lay.Reads as lay-reads
@@ -31,19 +31,18 @@ returns c =
     refused-writing _ (fieldsOf (args .kind) (args .sender) (args .changes .now)) (args .frame .now) _ _ (c .before .refusal .ensures) (c .if1 .taken)
 
 sub-lay : tie.Need-sub-lay
-sub-lay c = free c .inside
+sub-lay c = omega (arith, free c .inside)
 
 part-lay-start : tie.Need-part-lay-start
-part-lay-start c = free c .inside
+part-lay-start c = omega (arith, free c .inside)
 
 part-lay-end : tie.Need-part-lay-end
 part-lay-end c = search needs
 
 lay-requires : tie.Need-lay-requires
 lay-requires c κs =
-    let args = c .before .before .before .before .before .args in
     let can = free (c .before) in
-    (can .fitting, rw (to-end (args .frame .now) (args .offset), length-drop) (can .room))
+    (can .fitting, simp (length-take, length-drop) (omega (arith, can .inside, can .room)))
 
 mul-t14 : tie.Need-mul-t14
 mul-t14 c = search needs

@@ -1,0 +1,131 @@
+-- What the exported functions answer, case by case, and the bounds that make the answer fit its word.
+use Prim.Native.Nat.{ℕ, _+_, _*_, _≤_, _<_}
+use native.Mathlib.Omega.{arith}
+use mathlib.Core.Bool.{Bool, true, false}
+use mathlib.Core.List.{List, [], _∷_, _++_}
+use mathlib.Core.Path.{_≡_, refl, ap, _∙_}
+use borrow.Author.Tests.{eqb-true, leb-true, lt-ltb, le-ltb}
+use lib.Dec.{eqb, ltb, leb}
+use lib.ListN.{length, set, drop, length-set}
+use lib.Seq.{paste, sets-eq, take-all, drop-drop}
+use Rattle.ground.specs.Limits.{unitLimit, entryLimit, legalCount, messageRoom}
+use Rattle.ground.specs.Refusal.{accepted}
+use Rattle.rules.specs.Message.{Message, messageOf, readable, writeRefusal}
+use Rattle.ground.proofs.Tests.{both}
+use Rattle.rules.proofs.Written.{legal-of, readable-of}
+use Rattle.message.specs.Border.{taken, writeAnswer, leading, fieldPlaces, laidFields, readAnswer, fieldsAfter}
+use Rattle.message.specs.Reading.{acceptedReading, readingOf, numberOf as readingNumber}
+use Rattle.message.specs.Writing.{numberOf, writingOf}
+use Rattle.message.specs.declared.reader.Answer.the-variants.{Message as Accepted, Refused as Unread}
+use Rattle.message.specs.declared.reader.Reading.{Reading}
+use Rattle.message.specs.declared.writer.Written.the-variants.{Length, Refused}
+use Rattle.message.specs.declared.writer.Written.{Written}
+use Rattle.message.proofs.Readings.{is-readable, not-readable}
+use Rattle.message.proofs.Writings.{writable}
+
+-- A refusal's number is passed on.
+pub refused-number : {answer : Written} {number r : ℕ} → answer ≡ Refused number → r ≡ numberOf answer → r ≡ writeAnswer answer
+refused-number e h = h ∙ rw e
+
+-- What is written fits the room of the longest message.
+pub written-short : (n : ℕ) (m : Message) (places offset : ℕ) {bytes : ℕ} → writingOf n m places offset ≡ Length bytes
+    → bytes ≤ messageRoom
+unfolding writingOf
+written-short n m places offset {bytes} e = go (eqb (writeRefusal n m places offset) accepted) refl
+  where
+    go : (t : Bool) → eqb (writeRefusal n m places offset) accepted ≡ t → bytes ≤ messageRoom
+    go true h =
+        let few = writable n m places offset (eqb-true _ _ h) .fitting .few in
+        let long : Length (4 + 4 * length (m .changes)) ≡ Length bytes = rw h at e in
+        let same : 4 + 4 * length (m .changes) ≡ bytes = cc in
+        omega arith
+    go false h =
+        let other : Refused (writeRefusal n m places offset) ≡ Length bytes = rw h at e in
+        let z : _≡_ {A = ℕ} 0 1 = cc in
+        absurd (omega arith)
+
+-- Three stores keep the length.
+pub stored-length : (kind sender entries : ℕ) (fields : List ℕ) → length (set (set (set fields 0 kind) 1 sender) 2 entries) ≡ length fields
+stored-length kind sender entries fields = simp length-set
+
+-- Three stores, and the copy of the changes after them.
+module _ (kind sender entries : ℕ) (changes fields : List ℕ) (full : length changes ≡ entryLimit) (room : fieldPlaces ≤ length fields) where
+  led : set (set (set fields 0 kind) 1 sender) 2 entries ≡ kind ∷ sender ∷ entries ∷ drop leading fields
+  led = sets-eq (kind ∷ sender ∷ entries ∷ []) fields 0 (omega arith)
+
+  pub all-laid : paste (set (set (set fields 0 kind) 1 sender) 2 entries) leading changes entryLimit
+      ≡ laidFields kind sender entries changes fields
+  unfolding laidFields
+  all-laid =
+      rw (led, take-all entryLimit changes (omega arith))
+      (ap (λ (rest : List ℕ). (kind ∷ sender ∷ entries ∷ changes) ++ rest) (drop-drop entryLimit leading fields))
+
+-- What a message that was found leaves: an answer that fits, and the table with the message's fields.
+pub record Found (n : ℕ) (bytes fields : List ℕ) (kind sender entries : ℕ) (changes : List ℕ) : Type 0 where
+  pub few : entries ≤ entryLimit
+  pub answer : taken + entries ≡ readAnswer n bytes (length fields)
+  pub table : laidFields kind sender entries changes fields ≡ fieldsAfter n bytes fields
+
+-- What follows from the reader's answer, once the count is legal and the table has room.
+module _
+    (n : ℕ)
+    (bytes fields : List ℕ)
+    (reading : Reading)
+    (count : legalCount n ≡ true)
+    (room : fieldPlaces ≤ length fields)
+    (read : reading ≡ readingOf n bytes)
+  where
+    roomy : ltb (length fields) fieldPlaces ≡ false
+    roomy = le-ltb (length fields) fieldPlaces room
+
+    pub found : {kind sender entries : ℕ} → reading .answer ≡ Accepted kind sender entries
+        → Found n bytes fields kind sender entries (reading .changes)
+    unfolding readAnswer fieldsAfter
+    found {kind} {sender} {entries} a = go (readable n bytes) refl
+      where
+        go : (t : Bool) → readable n bytes ≡ t → Found n bytes fields kind sender entries (reading .changes)
+        go true t =
+            let m = messageOf bytes in
+            let whole : reading ≡ acceptedReading m = read ∙ is-readable n bytes count t in
+            let answer : reading .answer ≡ Accepted (m .kind) (m .sender) (length (m .changes)) = rw whole in
+            let k : kind ≡ m .kind = cc in
+            let s : sender ≡ m .sender = cc in
+            let e : entries ≡ length (m .changes) = cc in
+            let legal = legal-of n m (readable-of n bytes t .legal) in
+            let most = leb-true n unitLimit (both (leb 2 n) (leb n unitLimit) count .1) in
+            record {
+              few = omega arith;
+              answer = rw (count, roomy, t, e);
+              table = rw (count, roomy, t, k, s, e, whole);
+            }
+        go false t =
+            let none : reading .answer ≡ Unread 9 = rw (read ∙ not-readable n bytes count t) in
+            let z : _≡_ {A = ℕ} 0 1 = cc in
+            absurd (omega arith)
+
+    -- A refusal's number is passed on, and the table is as it came.
+    pub not-found : {number r : ℕ} → reading .answer ≡ Unread number → r ≡ readingNumber (reading .answer)
+        → (r ≡ readAnswer n bytes (length fields)) × (fields ≡ fieldsAfter n bytes fields)
+    unfolding readAnswer fieldsAfter
+    not-found {number} {r} a h = go (readable n bytes) refl
+      where
+        go : (t : Bool) → readable n bytes ≡ t → (r ≡ readAnswer n bytes (length fields)) × (fields ≡ fieldsAfter n bytes fields)
+        go true t =
+            let some : reading .answer ≡ acceptedReading (messageOf bytes) .answer = rw (read ∙ is-readable n bytes count t) in
+            let z : _≡_ {A = ℕ} 0 1 = cc in
+            absurd (omega arith)
+        go false t = (h ∙ rw (read ∙ not-readable n bytes count t, count, roomy, t), rw (count, roomy, t))
+
+-- What is refused before the bytes are looked at: a count that is not legal, and then a table that is too short.
+module _ (n : ℕ) (bytes fields : List ℕ) where
+  pub bad-count : legalCount n ≡ false
+      → (1 ≡ readAnswer n bytes (length fields)) × (fields ≡ fieldsAfter n bytes fields)
+  unfolding readAnswer fieldsAfter
+  bad-count e = (rw e, rw e)
+
+  pub short-table : legalCount n ≡ true → length fields < fieldPlaces
+      → (7 ≡ readAnswer n bytes (length fields)) × (fields ≡ fieldsAfter n bytes fields)
+  unfolding readAnswer fieldsAfter
+  short-table e short =
+      let t : ltb (length fields) fieldPlaces ≡ true = lt-ltb (length fields) fieldPlaces short in
+      (rw (e, t), rw (e, t))

@@ -1,0 +1,95 @@
+-- `message::border::lay_fields` meets its contract. The invariant: after the three stores, the first i changes are copied.
+use Prim.Native.Nat.{_≤_, _-_}
+use native.Mathlib.Numerals.{add-one}
+use native.Mathlib.Omega.{arith}
+use mathlib.Core.Path.{_≡_, refl, _∙_}
+use borrow.Author.Needs.{needs}
+use lib.ListN.{length, set, length-set}
+use lib.Seq.{paste, paste-zero, paste-suc}
+use Rattle.ground.specs.Limits.{entryLimit}
+use Rattle.message.specs.Border.{leading}
+use Rattle.message.proofs.Borders.{stored-length, all-laid}
+use Rattle.message.proofs.border.lay_fields.Statement.{statement}
+use Rattle.message.proofs.border.lay_fields.Tie as tie
+
+abbrev Inv-loop : tie.InvT-loop
+Inv-loop kind sender entries changes fields₀ i₀ fields i =
+    (i ≤ entryLimit) × (length fields ≡ length fields₀) × (fields ≡ paste fields₀ leading changes i)
+
+abbrev μ-loop : tie.MeasureT-loop
+μ-loop kind sender entries changes fields₀ i₀ fields i = entryLimit - i
+
+slice-write-fields : tie.Need-slice-write-fields Inv-loop μ-loop
+slice-write-fields c = search needs
+
+slice-write-fields-2 : tie.Need-slice-write-fields-2 Inv-loop μ-loop
+slice-write-fields-2 c = simp length-set (omega arith)
+
+slice-write-fields-3 : tie.Need-slice-write-fields-3 Inv-loop μ-loop
+slice-write-fields-3 c = simp length-set (omega arith)
+
+loop-holds : tie.Need-loop-holds Inv-loop μ-loop
+loop-holds c = (search needs, refl, paste-zero _ leading (c .args .changes .now))
+
+mul-fields : tie.Need-mul-fields Inv-loop μ-loop
+mul-fields c = search needs
+
+shared-slice-read-fields : tie.Need-shared-slice-read-fields Inv-loop μ-loop
+shared-slice-read-fields c = search needs
+
+add-fields : tie.Need-add-fields Inv-loop μ-loop
+add-fields c = search needs
+
+mul-fields-2 : tie.Need-mul-fields-2 Inv-loop μ-loop
+mul-fields-2 c = search needs
+
+slice-write-fields-4 : tie.Need-slice-write-fields-4 Inv-loop μ-loop
+slice-write-fields-4 c =
+    let args = c .before .before .before .args in
+    omega (arith, stored-length (args .kind) (args .sender) (args .entries) (args .fields .now))
+
+add-i : tie.Need-add-i Inv-loop μ-loop
+add-i c = search needs
+
+loop-less : tie.Need-loop-less Inv-loop μ-loop
+loop-less c = search needs
+
+loop-again : tie.Need-loop-again Inv-loop μ-loop
+loop-again c =
+    let here = c .before .before .loop in
+    let args = c .before .before .before .args in
+    let led = set (set (set (args .fields .now) 0 (args .kind)) 1 (args .sender)) 2 (args .entries) in
+    let long = stored-length (args .kind) (args .sender) (args .entries) (args .fields .now) in
+    (search needs, search needs, rw (here .inv .2, add-one) (paste-suc led leading (args .changes .now) (here .i) 0 (omega arith) (omega arith)))
+
+same-length : tie.Need-same-length Inv-loop μ-loop
+same-length c =
+    let args = c .before .before .args in
+    c .before .loop .inv .1 ∙ stored-length (args .kind) (args .sender) (args .entries) (args .fields .now)
+
+returns : tie.Need-returns Inv-loop μ-loop
+returns c =
+    let args = c .before .before .args in
+    let all : c .before .loop .i ≡ entryLimit = omega arith in
+    rw (c .before .loop .inv .2, all) (all-laid (args .kind) (args .sender) (args .entries) (args .changes .now) (args .fields .now) (omega arith) (omega arith))
+
+pub lay-fields-spec : {M : Type 1} → statement M
+lay-fields-spec =
+    tie.close
+    (tie.spec
+    Inv-loop
+    μ-loop
+    slice-write-fields
+    slice-write-fields-2
+    slice-write-fields-3
+    loop-holds
+    mul-fields
+    shared-slice-read-fields
+    add-fields
+    mul-fields-2
+    slice-write-fields-4
+    add-i
+    loop-less
+    loop-again
+    same-length
+    returns)

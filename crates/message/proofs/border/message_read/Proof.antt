@@ -1,0 +1,113 @@
+-- `message::border::message_read` meets its contract: each return is a case of the definition, by the tests that led there.
+use native.Mathlib.Omega.{arith}
+use mathlib.Core.Path.{_∙_}
+use borrow.Author.Needs.{needs}
+use Rattle.ground.proofs.Limits.{count-legal, count-low, count-high}
+use Rattle.message.proofs.Borders.{Found, found, not-found, bad-count, short-table}
+use Rattle.message.proofs.border.lay_fields.Reads as lay-fields-reads
+use Rattle.message.proofs.border.message_read.Lts as lts
+use Rattle.message.proofs.border.message_read.Reads as reads
+use Rattle.message.proofs.border.message_read.Statement.{statement}
+use Rattle.message.proofs.border.message_read.Tie as tie
+use Rattle.message.proofs.border.reading_number.Reads as reading-number-reads
+use Rattle.message.proofs.reader.read.Reads as read-reads
+
+-- A message was found.
+got : (c : lts.After-known-told (read-reads.Asked, read-reads.Learnt, reading-number-reads.Asked, reading-number-reads.Learnt, lay-fields-reads.Asked, lay-fields-reads.Learnt) reads.Pre reads.Post)
+    → Found
+    (c .before .before .before .before .before .before .before .before .before .args .count)
+    (c .before .before .before .before .before .before .before .before .before .args .bytes .now)
+    (c .before .before .before .before .before .before .before .before .before .args .fields .now)
+    (c .before .answer .given .0 .0)
+    (c .before .answer .given .0 .1 .0)
+    (c .before .answer .given .0 .1 .1 .0)
+    (c .before .before .before .read .result .changes)
+got c =
+    let tested = c .before .before .before .before in
+    let args = tested .before .before .before .before .before .args in
+    found _ (args .bytes .now) (args .fields .now) (c .before .before .before .read .result)
+    (count-legal _ (tested .before .before .if1 .left) (tested .before .if2 .left))
+    (tested .if3 .left)
+    (c .before .before .before .read .ensures)
+    (c .before .answer .given .1)
+
+returns : tie.Need-returns
+returns c =
+    let args = c .before .before .before .args in
+    bad-count _ (args .bytes .now) (args .fields .now) (count-low _ (c .if1 .taken))
+
+cast-if2 : tie.Need-cast-if2
+cast-if2 c = search needs
+
+returns-2 : tie.Need-returns-2
+returns-2 c =
+    let args = c .before .before .before .before .args in
+    bad-count _ (args .bytes .now) (args .fields .now) (count-high _ (c .if2 .taken))
+
+returns-3 : tie.Need-returns-3
+returns-3 c =
+    let args = c .before .before .before .before .before .args in
+    short-table _ (args .bytes .now) (args .fields .now) (count-legal _ (c .before .before .if1 .left) (c .before .if2 .left)) (c .if3 .taken)
+
+read-requires : tie.Need-read-requires
+read-requires c κs = search needs
+
+enum-known-answer : tie.Need-enum-known-answer
+enum-known-answer c = search needs
+
+enum-told : tie.Need-enum-told
+enum-told c = search needs
+
+reading-number-requires : tie.Need-reading-number-requires
+reading-number-requires c κs = search needs
+
+returns-4 : tie.Need-returns-4
+returns-4 c =
+    let tested = c .before .before .before .before in
+    let args = tested .before .before .before .before .before .args in
+    not-found _ (args .bytes .now) (args .fields .now) (c .before .before .before .read .result)
+    (count-legal _ (tested .before .before .if1 .left) (tested .before .if2 .left))
+    (tested .if3 .left)
+    (c .before .before .before .read .ensures)
+    (c .before .enum-told .given .1)
+    (c .reading-number .ensures)
+
+cast-number : tie.Need-cast-number
+cast-number c = omega (arith, got (c .before) .few)
+
+slice-aggregate-lay-fields : tie.Need-slice-aggregate-lay-fields
+slice-aggregate-lay-fields c = search needs
+
+lay-fields-requires : tie.Need-lay-fields-requires
+lay-fields-requires c κs = search needs
+
+add-result : tie.Need-add-result
+add-result c = omega (arith, got (c .before .before .before .before .before .before) .few)
+
+same-length : tie.Need-same-length
+same-length c = search needs
+
+returns-5 : tie.Need-returns-5
+returns-5 c =
+    let message = got (c .before .before .before .before .before .before) in
+    (message .answer, c .before .before .lay-fields .ensures ∙ message .table)
+
+pub message-read-spec : {M : Type 1} → statement M
+message-read-spec =
+    tie.close
+    (tie.spec
+    returns
+    cast-if2
+    returns-2
+    returns-3
+    read-requires
+    enum-known-answer
+    enum-told
+    reading-number-requires
+    returns-4
+    cast-number
+    slice-aggregate-lay-fields
+    lay-fields-requires
+    add-result
+    same-length
+    returns-5)

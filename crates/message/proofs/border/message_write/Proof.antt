@@ -1,0 +1,70 @@
+-- `message::border::message_write` meets its contract: the number is that of the answer that the writer gave.
+use Prim.Native.Nat.{_≤_}
+use native.Mathlib.Omega.{arith}
+use mathlib.Core.Path.{sym, ap, _∙_}
+use borrow.Author.Needs.{needs}
+use Rattle.ground.specs.Limits.{messageRoom}
+use Rattle.message.specs.Border.{writeAnswer}
+use Rattle.message.proofs.Borders.{refused-number, written-short}
+use Rattle.message.proofs.border.message_write.Lts as lts
+use Rattle.message.proofs.border.message_write.Reads as reads
+use Rattle.message.proofs.border.message_write.Statement.{statement}
+use Rattle.message.proofs.border.message_write.Tie as tie
+use Rattle.message.proofs.border.writing_number.Reads as writing-number-reads
+use Rattle.message.proofs.writer.write.Reads as write-reads
+
+-- An accepted message is short.
+short : (c : lts.After-known-told (write-reads.Asked, write-reads.Learnt, writing-number-reads.Asked, writing-number-reads.Learnt) reads.Pre reads.Post)
+    → c .before .answer .given .0 .0 ≤ messageRoom
+short c =
+    let called = c .before .before .before .before .before .write in
+    written-short _ _ _ _ (sym (called .ensures .0) ∙ c .before .answer .given .1)
+
+write-requires : tie.Need-write-requires
+write-requires c κs = search needs
+
+enum-known-answer : tie.Need-enum-known-answer
+enum-known-answer c = search needs
+
+enum-told : tie.Need-enum-told
+enum-told c = search needs
+
+writing-number-requires : tie.Need-writing-number-requires
+writing-number-requires c κs = search needs
+
+same-length : tie.Need-same-length
+same-length c = search needs
+
+returns : tie.Need-returns
+returns c =
+    let called = c .before .before .before .before .before .write in
+    (refused-number (c .before .enum-told .given .1) (c .writing-number .ensures) ∙ ap writeAnswer (called .ensures .0), called .ensures .1)
+
+cast-result : tie.Need-cast-result
+cast-result c = omega (arith, short c)
+
+add-result : tie.Need-add-result
+add-result c = omega (arith, short c)
+
+same-length-2 : tie.Need-same-length-2
+same-length-2 c = search needs
+
+returns-2 : tie.Need-returns-2
+returns-2 c =
+    let called = c .before .before .before .before .before .write in
+    (ap writeAnswer (sym (c .before .answer .given .1) ∙ called .ensures .0), called .ensures .1)
+
+pub message-write-spec : {M : Type 1} → statement M
+message-write-spec =
+    tie.close
+    (tie.spec
+    write-requires
+    enum-known-answer
+    enum-told
+    writing-number-requires
+    same-length
+    returns
+    cast-result
+    add-result
+    same-length-2
+    returns-2)

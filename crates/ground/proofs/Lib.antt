@@ -3,6 +3,7 @@ pub mod Bits
 pub mod Choices
 pub mod Filled
 pub mod Filling
+pub mod Joined
 pub mod Limits
 pub mod Lists
 pub mod Nothing

@@ -1,5 +1,5 @@
 -- What loops that read the first n numbers of a row find: whether some number is there, and whether two rows differ.
-use Prim.Native.Nat.{ℕ, _+_, _≤_, _<_}
+use Prim.Native.Nat.{ℕ, _+_, _<_}
 use native.Mathlib.Numerals.{add-one}
 use native.Mathlib.Omega.{arith}
 use mathlib.Core.Bool.{Bool, true, false, not}
@@ -8,9 +8,9 @@ use mathlib.Core.Logic.{_≢_}
 use mathlib.Core.Path.{_≡_, sym, ap, _∙_}
 use borrow.Author.Tests.{eq-eqb, ne-eqb}
 use lib.Dec.{eqb}
-use lib.ListN.{length, take, length-append, length-take, length-replicate}
+use lib.ListN.{length, take, length-take}
 use lib.Seq.{getD-take, ext-getD}
-use Rattle.ground.specs.Rows.{at, some, same, filled}
+use Rattle.ground.specs.Rows.{at, some, same}
 use Rattle.ground.proofs.Rows.{same-eq, eq-same}
 use Rattle.ground.proofs.Tests.{neither-of, not-yes}
 
@@ -43,7 +43,3 @@ module _ (n : ℕ) (xs ys : List ℕ) where
       (ext-getD 0 (take n xs) (take n ys) (omega (arith, length-take n xs, length-take n ys)) (λ k l.
       let below : k < n = omega (arith, length-take n xs) in
       getD-take n xs k 0 below ∙ all k below ∙ sym (getD-take n ys k 0 below)))
-
--- A list that is filled up has at least that number of places.
-pub filled-long : (m : ℕ) (xs : List ℕ) → m ≤ length (filled m xs)
-filled-long m xs = simp (length-append, length-replicate) (omega arith)

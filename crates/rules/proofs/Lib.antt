@@ -1,9 +1,12 @@
 -- The table of figures, and the laws of messages and tables: what is written or laid out reads back as itself.
 pub mod Applied
+pub mod Differences
 pub mod Figures
 pub mod Fit
 pub mod FitUnit
 pub mod Laid
+pub mod LegalDifferences
 pub mod Noted
+pub mod TreeEntries
 pub mod Words
 pub mod Written

@@ -3,10 +3,10 @@
 use Prim.Native.Nat.{ℕ, _≤_, _<_}
 use native.Mathlib.Omega.{arith}
 use mathlib.Core.Bool.{Bool, true, false}
-use mathlib.Core.List.{List, [], _∷_}
+use mathlib.Core.List.{List, []}
 use mathlib.Core.Logic.{_≢_, ⊎-elim}
 use mathlib.Core.Path.{_≡_, refl, sym, ap, ap₂, _∙_}
-use lib.ListN.{length, getD, set, length-set, length-replicate}
+use lib.ListN.{set}
 use lib.Seq.{getD-set-same, getD-set-other, set-getD}
 use Rattle.ground.specs.Choice.{if_then_else_}
 use Rattle.ground.specs.Limits.{highestCost}
@@ -15,8 +15,8 @@ use Rattle.tree.specs.Recompute.{copyOf}
 use Rattle.tree.specs.Tree.{isTree}
 use Rattle.ground.proofs.Tests.{equal-or-not}
 use Rattle.tree.proofs.Rooted.{zeros-tree}
-use Rattle.rules.specs.Event.{Event, received, linkUp, newCost, linkDown, withLinks, noted}
-use Rattle.rules.specs.Message.{Message, holdsAcknowledgment, holdsUpdate, applied, unitOf, bodyOf, entryOf}
+use Rattle.rules.specs.Event.{received, linkUp, newCost, linkDown, withLinks, noted}
+use Rattle.rules.specs.Message.{Message, holdsAcknowledgment, holdsUpdate, applied}
 use Rattle.rules.specs.Unit.{Unit, fitUnit}
 use Rattle.rules.proofs.FitUnit.{FitFacts, fit-facts, facts-fit}
 use Rattle.rules.proofs.Laid.{ShapedUnit}
@@ -25,7 +25,7 @@ use Rattle.rules.proofs.Laid.{ShapedUnit}
 abbrev pub touched : Unit → (k cost wait : ℕ) (copy : List ℕ) → Unit
 touched u k cost wait copy = withLinks u (set (u .costs) k cost) (set (u .copies) k copy) (set (u .awaited) k wait)
 
--- What is fit of unit me's link to k, of n.
+-- What makes unit me's link to unit k fit, by its cost, wait and copy, in a network of n.
 pub record FitTouch (n me k cost wait : ℕ) (copy : List ℕ) : Type 0 where
   pub low : cost ≤ highestCost
   pub own : k ≡ me → cost ≡ 0
@@ -34,87 +34,59 @@ pub record FitTouch (n me k cost wait : ℕ) (copy : List ℕ) : Type 0 where
   pub copy-down : cost ≡ 0 → copy ≡ zeros n
   pub copy-up : cost ≢ 0 → isTree n k copy ≡ true
 
-module _ (u : Unit) (s : ShapedUnit u) (k cost wait : ℕ) (copy : List ℕ) where
-  -- The rows keep their places.
-  pub touched-shaped : (k < u .count → length copy ≡ u .count) → ShapedUnit (touched u k cost wait copy)
-  touched-shaped long =
+module _ (u : Unit) (s : ShapedUnit u) (f : FitFacts u) (k cost wait : ℕ) (copy : List ℕ) (below : k < u .count)
+    (t : FitTouch (u .count) (u .me) k cost wait copy) where
+  -- Each link of a fit unit is fit.
+  untouched : (i : ℕ) → i < u .count → FitTouch (u .count) (u .me) i (at (u .costs) i) (at (u .awaited) i) (copyOf (u .copies) i)
+  untouched i l =
       record {
-        limit = s .limit;
-        costs = length-set (u .costs) k cost ∙ s .costs;
-        awaited = length-set (u .awaited) k wait ∙ s .awaited;
-        tree = s .tree;
-        feasible = s .feasible;
-        copies = length-set (u .copies) k copy ∙ s .copies;
-        copy = each;
+        low = f .cost i l;
+        own = λ e. ap (at (u .costs)) e ∙ f .own-cost;
+        once = f .wait i l;
+        wait-down = f .wait-down i l;
+        copy-down = f .copy-down i l;
+        copy-up = f .copy-up i l;
       }
-    where
-      each : (i : ℕ) → i < u .count → length (getD (set (u .copies) k copy) i []) ≡ u .count
-      each i l =
-          ⊎-elim
-          (λ e. ap (λ (j : ℕ). length (getD (set (u .copies) k copy) j [])) e
-          ∙ ap length (getD-set-same (u .copies) k copy [] (omega (arith, s .copies))) ∙ long (omega arith))
-          (λ d. ap length (getD-set-other (u .copies) k i copy [] d) ∙ s .copy i l)
-          (equal-or-not i k)
 
-  module _ (f : FitFacts u) (below : k < u .count) (t : FitTouch (u .count) (u .me) k cost wait copy) where
-    -- Link i then, at the unit's own cost, wait and copy.
-    untouched : (i : ℕ) → i < u .count → FitTouch (u .count) (u .me) i (at (u .costs) i) (at (u .awaited) i) (copyOf (u .copies) i)
-    untouched i l =
-        record {
-          low = f .cost i l;
-          own = λ e. ap (at (u .costs)) e ∙ f .own-cost;
-          once = f .wait i l;
-          wait-down = f .wait-down i l;
-          copy-down = f .copy-down i l;
-          copy-up = f .copy-up i l;
-        }
+  -- Link i is fit in the unit that was touched.
+  link-fits : (i : ℕ) → i < u .count
+      → FitTouch (u .count) (u .me) i
+      (at (set (u .costs) k cost) i) (at (set (u .awaited) k wait) i) (copyOf (set (u .copies) k copy) i)
+  link-fits i l =
+      ⊎-elim
+      (λ e.
+      rw (
+        e,
+        getD-set-same (u .costs) k cost 0 (omega (arith, s .costs)),
+        getD-set-same (u .awaited) k wait 0 (omega (arith, s .awaited)),
+        getD-set-same (u .copies) k copy [] (omega (arith, s .copies)),
+      ) t)
+      (λ d.
+      rw (
+        getD-set-other (u .costs) k i cost 0 d,
+        getD-set-other (u .awaited) k i wait 0 d,
+        getD-set-other (u .copies) k i copy [] d,
+      ) (untouched i l))
+      (equal-or-not i k)
 
-    -- Link i is fit in the unit that was touched.
-    link-fits : (i : ℕ) → i < u .count
-        → FitTouch (u .count) (u .me) i
-        (at (set (u .costs) k cost) i) (at (set (u .awaited) k wait) i) (copyOf (set (u .copies) k copy) i)
-    link-fits i l =
-        ⊎-elim
-        (λ e.
-        rw (
-          e,
-          getD-set-same (u .costs) k cost 0 (omega (arith, s .costs)),
-          getD-set-same (u .awaited) k wait 0 (omega (arith, s .awaited)),
-          getD-set-same (u .copies) k copy [] (omega (arith, s .copies)),
-        ) t)
-        (λ d.
-        rw (
-          getD-set-other (u .costs) k i cost 0 d,
-          getD-set-other (u .awaited) k i wait 0 d,
-          getD-set-other (u .copies) k i copy [] d,
-        ) (untouched i l))
-        (equal-or-not i k)
-
-    -- So the unit is fit.
-    pub touched-fit : fitUnit (touched u k cost wait copy) ≡ true
-    touched-fit =
-        facts-fit (touched u k cost wait copy)
-        (record {
-          low = f .low;
-          high = f .high;
-          me = f .me;
-          cost = λ i l. link-fits i l .low;
-          own-cost = link-fits (u .me) (f .me) .own refl;
-          wait = λ i l. link-fits i l .once;
-          wait-down = λ i l. link-fits i l .wait-down;
-          copy-down = λ i l. link-fits i l .copy-down;
-          copy-up = λ i l. link-fits i l .copy-up;
-          tree = f .tree;
-          own-feasible = f .own-feasible;
-          feasible = f .feasible;
-        })
-
--- Changes keep the places of a copy.
-pub length-applied : (copy changes : List ℕ) → length (applied copy changes) ≡ length copy
-unfolding applied
-length-applied copy [] = refl
-length-applied copy (c ∷ rest) =
-    length-applied (set copy (unitOf c) (entryOf (bodyOf c))) rest ∙ length-set copy (unitOf c) (entryOf (bodyOf c))
+  -- So the unit is fit.
+  pub touched-fit : fitUnit (touched u k cost wait copy) ≡ true
+  touched-fit =
+      facts-fit (touched u k cost wait copy)
+      (record {
+        low = f .low;
+        high = f .high;
+        me = f .me;
+        cost = λ i l. link-fits i l .low;
+        own-cost = link-fits (u .me) (f .me) .own refl;
+        wait = λ i l. link-fits i l .once;
+        wait-down = λ i l. link-fits i l .wait-down;
+        copy-down = λ i l. link-fits i l .copy-down;
+        copy-up = λ i l. link-fits i l .copy-up;
+        tree = f .tree;
+        own-feasible = f .own-feasible;
+        feasible = f .feasible;
+      })
 
 -- The wait on the sender of a message, and the copy of its tree, once the message is noted.
 abbrev waitAfter : Unit → Message → ℕ
@@ -124,7 +96,7 @@ abbrev copyAfter : Unit → Message → List ℕ
 copyAfter u m =
     if holdsUpdate m then applied (copyOf (u .copies) (m .sender)) (m .changes) else copyOf (u .copies) (m .sender)
 
--- What each event touches.
+-- A message touches its sender's wait and copy.
 noted-received : (u : Unit) (m : Message)
     → noted u (received m) ≡ touched u (m .sender) (at (u .costs) (m .sender)) (waitAfter u m) (copyAfter u m)
 unfolding noted
@@ -146,33 +118,25 @@ noted-received u m = λ i. withLinks u (costs i) (copies (holdsUpdate m) i) (wai
     waits true = refl
     waits false = sym (set-getD (u .awaited) (m .sender) 0)
 
+-- Link up touches the cost and the copy.
 noted-up : (u : Unit) (k c : ℕ) → noted u (linkUp k c) ≡ touched u k c (at (u .awaited) k) (zeros (u .count))
 unfolding noted
 noted-up u k c =
     ap (withLinks u (set (u .costs) k c) (set (u .copies) k (zeros (u .count)))) (sym (set-getD (u .awaited) k 0))
 
+-- A new cost touches the cost.
 noted-cost : (u : Unit) (k c : ℕ) → noted u (newCost k c) ≡ touched u k c (at (u .awaited) k) (copyOf (u .copies) k)
 unfolding noted
 noted-cost u k c =
     ap₂ (withLinks u (set (u .costs) k c)) (sym (set-getD (u .copies) k [])) (sym (set-getD (u .awaited) k 0))
 
+-- Link down touches all three.
 noted-down : (u : Unit) (k : ℕ) → noted u (linkDown k) ≡ touched u k 0 0 (zeros (u .count))
 unfolding noted
 noted-down u k = refl
 
--- Step A keeps a unit's shape.
-pub noted-shaped : (u : Unit) → ShapedUnit u → (e : Event) → ShapedUnit (noted u e)
-noted-shaped u s (received m) = rw noted-received (touched-shaped u s (m .sender) _ _ (copyAfter u m) (long (holdsUpdate m)))
-  where
-    long : (b : Bool) → m .sender < u .count
-        → length (if b then applied (copyOf (u .copies) (m .sender)) (m .changes) else copyOf (u .copies) (m .sender)) ≡ u .count
-    long true l = length-applied (copyOf (u .copies) (m .sender)) (m .changes) ∙ s .copy (m .sender) l
-    long false l = s .copy (m .sender) l
-noted-shaped u s (linkUp k c) = rw noted-up (touched-shaped u s k _ _ (zeros (u .count)) (λ l. length-replicate (u .count) 0))
-noted-shaped u s (newCost k c) = rw noted-cost (touched-shaped u s k _ _ (copyOf (u .copies) k) (s .copy k))
-noted-shaped u s (linkDown k) = rw noted-down (touched-shaped u s k _ _ (zeros (u .count)) (λ l. length-replicate (u .count) 0))
-
 module _ (u : Unit) (s : ShapedUnit u) (fit : fitUnit u ≡ true) where
+  -- What is fit of the unit before the event.
   abbrev facts : FitFacts u
   facts = fit-facts u fit
 
@@ -180,7 +144,7 @@ module _ (u : Unit) (s : ShapedUnit u) (fit : fitUnit u ≡ true) where
   pub up-fit : (k c : ℕ) → k < u .count → k ≢ u .me → 1 ≤ c → c ≤ highestCost → fitUnit (noted u (linkUp k c)) ≡ true
   up-fit k c below other low high =
       rw noted-up
-      (touched-fit u s k c (at (u .awaited) k) (zeros (u .count)) facts below
+      (touched-fit u s facts k c (at (u .awaited) k) (zeros (u .count)) below
       (record {
         low = high;
         own = λ e. absurd (other e);
@@ -195,7 +159,7 @@ module _ (u : Unit) (s : ShapedUnit u) (fit : fitUnit u ≡ true) where
       → fitUnit (noted u (newCost k c)) ≡ true
   cost-fit k c below up low high =
       rw noted-cost
-      (touched-fit u s k c (at (u .awaited) k) (copyOf (u .copies) k) facts below
+      (touched-fit u s facts k c (at (u .awaited) k) (copyOf (u .copies) k) below
       (record {
         low = high;
         own = λ e. absurd (up (ap (at (u .costs)) e ∙ facts .own-cost));
@@ -209,7 +173,7 @@ module _ (u : Unit) (s : ShapedUnit u) (fit : fitUnit u ≡ true) where
   pub down-fit : (k : ℕ) → k < u .count → fitUnit (noted u (linkDown k)) ≡ true
   down-fit k below =
       rw noted-down
-      (touched-fit u s k 0 0 (zeros (u .count)) facts below
+      (touched-fit u s facts k 0 0 (zeros (u .count)) below
       (record {
         low = omega arith;
         own = λ e. refl;
@@ -225,7 +189,7 @@ module _ (u : Unit) (s : ShapedUnit u) (fit : fitUnit u ≡ true) where
       → fitUnit (noted u (received m)) ≡ true
   received-fit m below up tree =
       rw noted-received
-      (touched-fit u s (m .sender) (at (u .costs) (m .sender)) (waitAfter u m) (copyAfter u m) facts below
+      (touched-fit u s facts (m .sender) (at (u .costs) (m .sender)) (waitAfter u m) (copyAfter u m) below
       (record {
         low = facts .cost (m .sender) below;
         own = λ e. absurd (up (ap (at (u .costs)) e ∙ facts .own-cost));

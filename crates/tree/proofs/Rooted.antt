@@ -1,18 +1,18 @@
 -- What a row that passes the test for a tree has, that the empty row passes it, and how far a unit can be in a row.
-use Prim.Native.Nat.{ℕ, zero, suc, _-_, _≤_, _<_}
+use Prim.Native.Nat.{ℕ, zero, suc, _-_, _≤_}
 use native.Mathlib.Omega.{arith}
 use mathlib.Core.Bool.{true}
 use mathlib.Core.List.{List}
-use mathlib.Core.Logic.{⊎-elim}
+use mathlib.Core.Logic.{_⊎_, inl, inr, ⊎-elim}
 use mathlib.Core.Path.{_≡_}
 use borrow.Author.Tests.{eqb-true, eq-eqb}
 use lib.Dec.{eqb}
 use lib.ListN.{length, length-replicate}
-use Rattle.ground.specs.Limits.{far, longest, unitLimit}
+use Rattle.ground.specs.Limits.{unitLimit, far, longest}
 use Rattle.ground.specs.Rows.{at, zeros, every}
 use Rattle.ground.proofs.Lists.{at-zeros}
 use Rattle.ground.proofs.Rows.{every-of}
-use Rattle.ground.proofs.Tests.{both, both-of, either-left, equal-or-not}
+use Rattle.ground.proofs.Tests.{both, both-of, either-left, equal-or-not, less-or-not}
 use Rattle.tree.specs.Tree.{nothing, distanceWithin, distance, legalEntry, isTree}
 use Rattle.tree.proofs.Tree.{distance-root, distance-cut, distance-more, distance-none, distance-legal}
 
@@ -48,8 +48,12 @@ within-far root tree (suc left) j =
 
 -- "A distance is unreachable .. or at most 983,025."
 abbrev pub LegalDistance : ℕ → Type 0
-LegalDistance d = (d < far → d ≤ longest) × (d ≤ far)
+LegalDistance d = (d ≡ far) ⊎ (d ≤ longest)
 
 -- Every distance in a row of at most the unit limit is.
 pub distance-longest : (n root : ℕ) (tree : List ℕ) → n ≤ unitLimit → (j : ℕ) → LegalDistance (distance n root tree j)
-distance-longest n root tree high j = (λ f. omega (arith, distance-legal n root tree j f), within-far root tree (n - 1) j)
+distance-longest n root tree high j =
+    ⊎-elim
+    (λ f. inr (omega (arith, distance-legal n root tree j f)))
+    (λ f. inl (omega (arith, within-far root tree (n - 1) j)))
+    (less-or-not (distance n root tree j) far)

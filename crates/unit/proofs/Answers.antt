@@ -1,0 +1,116 @@
+-- Questions to a unit's table: what it tells that nothing refuses the question, and that each answer is within its width.
+use Prim.Native.Nat.{ℕ, _+_, _≤_, _<_}
+use native.Mathlib.Nat.{pow-le-pow-right}
+use native.Mathlib.Omega.{arith}
+use mathlib.Core.Bool.{true, not}
+use mathlib.Core.List.{List, _∷_, _++_, append-assoc}
+use mathlib.Core.Logic.{_⊎_, inl, inr, ⊎-elim, _≢_}
+use mathlib.Core.Path.{_≡_, refl, sym, ap, _∙_}
+use borrow.Author.Tests.{eq-eqb, ne-eqb, eqb-true, ltb-true, not-false}
+use lib.Dec.{eqb, ltb}
+use lib.ListN.{length, drop, length-append, length-replicate, List·getD-append}
+use lib.Seq.{drop-at}
+use Rattle.ground.specs.Choice.{if_then_else_}
+use Rattle.ground.specs.Limits.{unitLimit, far, longest}
+use Rattle.ground.specs.Refusal.{accepted, _gives_}
+use Rattle.ground.specs.Rows.{at, tab}
+use Rattle.tree.specs.Tree.{distance}
+use Rattle.rules.specs.Hub.{questionRefusal, hubQuestionRefusal}
+use Rattle.rules.specs.Tables.{successorsAt, unitWords, laidRow, laidUnit, unitFrom, fitUnitTable}
+use Rattle.rules.specs.Unit.{Unit, isSuccessor, successorSet}
+use Rattle.ground.proofs.Bits.{bits-below}
+use Rattle.ground.proofs.Filled.{length-filled}
+use Rattle.ground.proofs.Lists.{parts, at-from}
+use Rattle.ground.proofs.Places.{at-filled}
+use Rattle.ground.proofs.Refusal.{gives-none, otherwise-none}
+use Rattle.ground.proofs.Rows.{length-tab, tab-at}
+use Rattle.ground.proofs.Tests.{equal-or-not, less-or-not, if-true, if-false}
+use Rattle.tree.proofs.Tree.{distance-legal}
+use Rattle.rules.proofs.Fit.{fit-unit-shaped}
+use Rattle.rules.proofs.FitUnit.{FitFacts, fit-table-facts}
+use Rattle.rules.proofs.Laid.{ShapedUnit, unit-lays-back}
+use Rattle.unit.specs.Holding.{heldOf}
+use Rattle.unit.proofs.Holding.{laid-held}
+
+-- A number that is the refusal is the answer where it is one; else the value is.
+module _ (value : ℕ) {number refusal : ℕ} (e : number ≡ refusal) where
+  pub refused : number ≢ accepted → number ≡ (if eqb refusal accepted then value else refusal)
+  refused d = e ∙ sym (if-false (eqb refusal accepted) value refusal (ne-eqb refusal accepted (λ z. d (e ∙ z))))
+
+  pub answered : number ≡ accepted → value ≡ (if eqb refusal accepted then value else refusal)
+  answered z = sym (if-true (eqb refusal accepted) value refusal (eq-eqb refusal accepted (sym e ∙ z)))
+
+-- What `held::load` asks of a table, which a fit one has.
+pub loadable : (words : List ℕ) → fitUnitTable words ≡ true → (length words ≡ unitWords) × (at words 0 ≤ unitLimit)
+unfolding fitUnitTable unitFrom
+loadable words e = (eqb-true (length words) unitWords (search parts), fit-table-facts words e .high)
+
+-- What a question that nothing refuses tells: the table is fit, and the destination is a unit.
+pub record Asked (words : List ℕ) (to : ℕ) : Type 0 where
+  pub fit : fitUnitTable words ≡ true
+  pub below : to < unitFrom words .count
+
+pub asked : (words : List ℕ) (to : ℕ) → questionRefusal words to ≡ accepted → Asked words to
+asked words to e =
+    let none = otherwise-none (not (fitUnitTable words) gives 2) (hubQuestionRefusal (unitFrom words) to) e in
+    record {
+      fit = not-false (fitUnitTable words) (gives-none (not (fitUnitTable words)) 1 (none .0));
+      below =
+          ltb-true to (unitFrom words .count)
+          (not-false (ltb to (unitFrom words .count)) (gives-none (not (ltb to (unitFrom words .count))) 2 (none .1)));
+    }
+
+-- A distance over at most 15 links is within the longest, or unreachable.
+pub distance-within : (n root : ℕ) (tree : List ℕ) (j : ℕ) → n ≤ unitLimit → distance n root tree j ≤ far
+    → (distance n root tree j ≤ longest) ⊎ (distance n root tree j ≡ far)
+distance-within n root tree j low most =
+    ⊎-elim
+    (λ l. inl (omega (arith, distance-legal n root tree j l)))
+    (λ l. inr (omega arith))
+    (less-or-not (distance n root tree j) far)
+
+-- A feasible distance of a fit unit is.
+pub feasible-within : (u : Unit) → FitFacts u → (j : ℕ) → j < u .count
+    → (at (u .feasible) j ≤ longest) ⊎ (at (u .feasible) j ≡ far)
+feasible-within u f j l =
+    ⊎-elim
+    (λ e. inl (omega (arith, ap (at (u .feasible)) e, f .own-feasible)))
+    (λ d. ⊎-elim inr inl (f .feasible j l d))
+    (equal-or-not j (u .me))
+
+-- A successor set is below 2 ^ 16, so 100 plus the set fits.
+pub set-below : (u : Unit) (j : ℕ) → u .count ≤ unitLimit → successorSet u j < 65536
+unfolding successorSet
+set-below u j low =
+    omega (arith, bits-below (u .count) (isSuccessor u j), pow-le-pow-right {n = 2} (omega arith) {i = u .count} {j = 16} low)
+
+module _ (u : Unit) (s : ShapedUnit u) where
+  -- The numbers before the successor sets.
+  abbrev front : List ℕ
+  front = u .count ∷ u .me ∷ (laidRow (u .costs) ++ laidRow (u .awaited) ++ laidRow (u .tree) ++ laidRow (u .feasible))
+
+  front-length : length front ≡ successorsAt
+  front-length = simp (length-append, length-replicate) (omega (arith, s .limit, s .costs, s .awaited, s .tree, s .feasible))
+
+  -- The table has the successor set of destination j at its place.
+  pub set-at-place : (j : ℕ) → j < u .count → at (laidUnit u) (successorsAt + j) ≡ successorSet u j
+  set-at-place j l =
+      let sets = tab (u .count) (successorSet u) in
+      let long : length (laidRow sets) ≡ unitLimit =
+      length-filled unitLimit sets (omega (arith, length-tab (u .count) (successorSet u), s .limit)) in
+      at-from successorsAt (laidUnit u) (laidRow sets ++ heldOf u .copies) behind j (successorsAt + j) refl
+      ∙ List·getD-append (laidRow sets) (heldOf u .copies) 0 j (omega (arith, s .limit))
+      ∙ at-filled unitLimit sets j
+      ∙ tab-at (u .count) (successorSet u) j 0 l
+    where
+      behind : drop successorsAt (laidUnit u) ≡ laidRow (tab (u .count) (successorSet u)) ++ heldOf u .copies
+      behind =
+          ap (drop successorsAt) (sym (laid-held u s))
+          ∙ ap (drop successorsAt) (append-assoc front (laidRow (tab (u .count) (successorSet u))) (heldOf u .copies))
+          ∙ drop-at front (laidRow (tab (u .count) (successorSet u)) ++ heldOf u .copies) successorsAt front-length
+
+-- So a fit table has.
+pub fit-set : (words : List ℕ) (to : ℕ) → Asked words to → at words (successorsAt + to) ≡ successorSet (unitFrom words) to
+fit-set words to a =
+    ap (λ (xs : List ℕ). at xs (successorsAt + to)) (sym (unit-lays-back words (a .fit)))
+    ∙ set-at-place (unitFrom words) (fit-unit-shaped words (a .fit)) to (a .below)

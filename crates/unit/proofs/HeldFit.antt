@@ -1,0 +1,37 @@
+-- Arrays that hold a fit unit: they have zeros from the count on, the unit is shaped, and the arrays of a fit unit are such.
+use Prim.Native.Nat.{_≤_}
+use native.Mathlib.Omega.{arith}
+use mathlib.Core.Bool.{true}
+use mathlib.Core.Path.{_≡_, ap}
+use lib.ListN.{length}
+use Rattle.ground.specs.Limits.{unitLimit}
+use Rattle.rules.specs.Unit.{Unit, fitUnit}
+use Rattle.rules.proofs.FitUnit.{fit-facts}
+use Rattle.rules.proofs.Laid.{ShapedUnit}
+use Rattle.unit.specs.Flat.{flatLength}
+use Rattle.unit.specs.Holding.{heldOf, unitOf}
+use Rattle.unit.specs.Noting.{Padded}
+use Rattle.unit.specs.Reacted.{FitHeld}
+use Rattle.unit.specs.declared.held.Held.{Held}
+use Rattle.unit.proofs.Holding.{holds-back, length-flat}
+use Rattle.unit.proofs.Noted.{padded-held, padded-shaped}
+
+-- The count is at most the limit.
+pub held-high : {h : Held} → FitHeld h → h .count ≤ unitLimit
+held-high {h} p = fit-facts (unitOf h) (p .fit) .high
+
+-- Zeros from the count on.
+pub held-padded : {h : Held} → FitHeld h → Padded h
+held-padded p = record { count = held-high p; zeros = p .padded }
+
+-- The unit is shaped.
+pub held-shaped : {h : Held} → FitHeld h → ShapedUnit (unitOf h)
+held-shaped {h} p = padded-shaped h (held-padded p)
+
+-- The array of copies has its fixed length.
+pub held-flat : {h : Held} → FitHeld h → flatLength ≤ length (h .copies)
+held-flat {h} p = omega (arith, ap (λ (x : Held). length (x .copies)) (p .padded), length-flat (unitOf h) (held-shaped p))
+
+-- The arrays of a shaped unit that is fit hold it.
+pub fit-held : (u : Unit) → ShapedUnit u → fitUnit u ≡ true → FitHeld (heldOf u)
+fit-held u s fit = record { padded = padded-held u s .zeros; fit = rw (holds-back u s) fit }

@@ -1,0 +1,19 @@
+-- Laws that several proofs of this crate cite.
+pub mod Answers
+pub mod Choosing
+pub mod Composed
+pub mod Copies
+pub mod FitAgain
+pub mod Fitness
+pub mod Fresh
+pub mod HeldFit
+pub mod Holding
+pub mod Noted
+pub mod Reacting
+pub mod Recomputing
+pub mod Rounds
+pub mod Scanning
+pub mod Sending
+pub mod SendingAll
+pub mod Settled
+pub mod Successors

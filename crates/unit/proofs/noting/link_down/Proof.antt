@@ -1,0 +1,55 @@
+-- `unit::noting::link_down` meets its contract. Cost and wait are stored by `row-stored`, the copy emptied by `copy-emptied`.
+use mathlib.Core.Path.{ap, _∙_}
+use borrow.Author.Needs.{needs}
+use lib.ListN.{set}
+use Rattle.ground.specs.Rows.{zeros}
+use Rattle.rules.specs.Event.{noted}
+use Rattle.unit.specs.Holding.{unitOf}
+use Rattle.unit.specs.declared.held.Held.{Held}
+use Rattle.unit.proofs.Noted.{row-stored, links-held, copy-emptied}
+use Rattle.unit.proofs.noting.link_down.Statement.{statement}
+use Rattle.unit.proofs.noting.link_down.Tie as tie
+
+mul-costs : tie.Need-mul-costs
+mul-costs c = search needs
+
+array-write-costs : tie.Need-array-write-costs
+array-write-costs c = search needs
+
+mul-awaited : tie.Need-mul-awaited
+mul-awaited c = search needs
+
+array-write-awaited : tie.Need-array-write-awaited
+array-write-awaited c = search needs
+
+with-copy-requires : tie.Need-with-copy-requires
+with-copy-requires c κs = search needs
+
+with-links-requires : tie.Need-with-links-requires
+with-links-requires c κs = search needs
+
+returns : tie.Need-returns
+unfolding noted
+returns c =
+    let start = c .before .before .before .before .before in
+    let h = start .args .unit in
+    let p = start .pre .0 in
+    let k = start .args .k in
+    links-held h p (set (unitOf h .costs) k 0) (set (unitOf h .awaited) k 0)
+    (set (unitOf h .copies) k (zeros (h .count)))
+    (c .with-links .ensures)
+    (row-stored (h .count) (p .count) (h .costs) k 0 (ap (λ (g : Held). g .costs) (p .zeros)) (start .pre .1))
+    (row-stored (h .count) (p .count) (h .awaited) k 0 (ap (λ (g : Held). g .awaited) (p .zeros)) (start .pre .1))
+    (c .before .with-copy .ensures ∙ copy-emptied h p k (start .pre .1))
+
+pub link-down-spec : {M : Type 1} → statement M
+link-down-spec =
+    tie.close
+    (tie.spec
+    mul-costs
+    array-write-costs
+    mul-awaited
+    array-write-awaited
+    with-copy-requires
+    with-links-requires
+    returns)

@@ -1,0 +1,53 @@
+-- A unit as the code holds it, in arrays of fixed length with zeros from the count on, and the unit that such arrays hold.
+use Prim.Native.Nat.{ℕ, _+_, _/_, _%_}
+use mathlib.Core.Bool.{Bool, _&&_}
+use mathlib.Core.List.{List, _∷_, _++_, map}
+use lib.Dec.{ltb}
+use lib.ListN.{take}
+use Rattle.ground.specs.Choice.{if_then_else_}
+use Rattle.ground.specs.Limits.{unitLimit}
+use Rattle.ground.specs.Rows.{at, tab, filled, joined}
+use Rattle.rules.specs.Tables.{laidRow, copyAt}
+use Rattle.rules.specs.Unit.{Unit}
+use Rattle.unit.specs.Flat.{copiesIn, flatLength}
+use Rattle.unit.specs.declared.held.Held.{Held}
+
+-- The arrays that hold a unit.
+abbrev pub heldOf : Unit → Held
+heldOf u =
+    record {
+      count = u .count;
+      me = u .me;
+      costs = laidRow (u .costs);
+      awaited = laidRow (u .awaited);
+      tree = laidRow (u .tree);
+      feasible = laidRow (u .feasible);
+      copies = filled flatLength (joined (map laidRow (u .copies)));
+    }
+
+-- The unit that arrays hold.
+abbrev pub unitOf : Held → Unit
+unitOf h =
+    record {
+      count = h .count;
+      me = h .me;
+      costs = take (h .count) (h .costs);
+      awaited = take (h .count) (h .awaited);
+      tree = take (h .count) (h .tree);
+      feasible = take (h .count) (h .feasible);
+      copies = copiesIn (h .count) (h .copies);
+    }
+
+-- Place i of the copies in a table of numbers, 0 where it doesn't count; and all of them.
+abbrev pub copyPlace : (n : ℕ) (words : List ℕ) (i : ℕ) → ℕ
+copyPlace n words i = if ltb (i / unitLimit) n && ltb (i % unitLimit) n then at words (copyAt 0 + i) else 0
+
+abbrev pub flatCopies : (n : ℕ) (words : List ℕ) → List ℕ
+flatCopies n words = tab flatLength (copyPlace n words)
+
+-- The whole table, from the arrays and the successor sets.
+abbrev pub laidWith : Held → (successors : List ℕ) → List ℕ
+laidWith h successors =
+    h .count
+    ∷ h .me
+    ∷ (h .costs ++ h .awaited ++ h .tree ++ h .feasible ++ successors ++ h .copies)

@@ -1,0 +1,199 @@
+// Whether a unit's table is fit: what it holds is within the rules, and it is exactly what that unit lays out.
+ghost use mathlib.Core.Path.{_≡_};
+ghost use Prim.Native.Nat.{_≤_, _<_};
+ghost use lib.ListN.{length};
+ghost use Rattle.ground.specs.Limits.{unitLimit};
+ghost use Rattle.ground.specs.Rows.{every, same, zeros, filled};
+ghost use Rattle.rules.specs.Tables.{fitUnitTable};
+ghost use Rattle.rules.specs.Unit.{fitLink, fitFeasible, fitUnit};
+ghost use Rattle.unit.specs.Holding.{unitOf};
+ghost use Rattle.unit.specs.Successors.{setOver, setsOver};
+use crate::heads;
+use crate::held;
+use crate::held::Held;
+use crate::held::WORDS;
+use crate::through;
+use ground::FAR;
+use ground::HIGHEST_COST;
+use ground::LONGEST;
+use ground::UNITS;
+
+// The successor set of destination j, the sum of 2 to the power k over its successors k.
+fn set_over(count: usize, through: [[u32; UNITS]; UNITS], feasible: [u32; UNITS], j: usize) -> u32
+    requires { ⌜ (count ≤ unitLimit) × (j < count) ⌝ }
+    ensures { λ r. ⌜ r ≡ setOver count through feasible j ⌝ }
+{
+    let mut set: u32 = 0;
+    let mut bit: u32 = 1;
+    let mut k = 0;
+    while k < count {
+        if through[k][j] < feasible[j] {
+            set += bit;
+        }
+        bit *= 2;
+        k += 1;
+    }
+    set
+}
+
+// The successor sets of all destinations.
+pub fn sets_over(
+    count: usize,
+    through: [[u32; UNITS]; UNITS],
+    feasible: [u32; UNITS],
+) -> [u32; UNITS]
+    requires { ⌜ count ≤ unitLimit ⌝ }
+    ensures { λ r. ⌜ r ≡ filled unitLimit (setsOver count through feasible) ⌝ }
+{
+    let mut sets = [0u32; UNITS];
+    let mut j = 0;
+    while j < count {
+        sets[j] = set_over(count, through, feasible, j);
+        j += 1;
+    }
+    sets
+}
+
+// Whether a row of copies holds nothing.
+fn is_empty(copy: &[u32]) -> bool
+    ensures { λ r. ⌜ r ≡ same (now (copy .entry)) (zeros (length (now (copy .entry)))) ⌝ }
+{
+    let mut j = 0;
+    while j < copy.len() {
+        if copy[j] != 0 {
+            return false;
+        }
+        j += 1;
+    }
+    true
+}
+
+// One link: down, without copy or wait; or up, at a legal cost, to another unit, with a copy that is a tree.
+fn fit_link(unit: Held, k: usize) -> bool
+    requires { ⌜ (unit .count ≤ unitLimit) × (k < unit .count) ⌝ }
+    ensures { λ r. ⌜ r ≡ fitLink (unitOf unit) k ⌝ }
+{
+    let costs = unit.costs;
+    let awaited = unit.awaited;
+    let copies = unit.copies;
+    let count = unit.count;
+    let from = k * UNITS;
+    let copy = &copies[from..from + count];
+    if costs[k] == 0 {
+        if awaited[k] != 0 {
+            return false;
+        }
+        return is_empty(copy);
+    }
+    if k == unit.me {
+        return false;
+    }
+    if HIGHEST_COST < costs[k] {
+        return false;
+    }
+    if 1 < awaited[k] {
+        return false;
+    }
+    heads::is_tree(copy, k)
+}
+
+fn fit_links(unit: Held) -> bool
+    requires { ⌜ unit .count ≤ unitLimit ⌝ }
+    ensures { λ r. ⌜ r ≡ every (unit .count) (fitLink (unitOf unit)) ⌝ }
+{
+    let count = unit.count;
+    let mut k = 0;
+    while k < count {
+        if !fit_link(unit, k) {
+            return false;
+        }
+        k += 1;
+    }
+    true
+}
+
+// Feasible distances: 0 to itself, else unreachable or at most the longest.
+fn fit_feasible(unit: Held) -> bool
+    requires { ⌜ unit .count ≤ unitLimit ⌝ }
+    ensures { λ r. ⌜ r ≡ every (unit .count) (fitFeasible (unitOf unit)) ⌝ }
+{
+    let count = unit.count;
+    let me = unit.me;
+    let feasible = unit.feasible;
+    let mut j = 0;
+    while j < count {
+        if j == me {
+            if feasible[j] != 0 {
+                return false;
+            }
+        } else if feasible[j] != FAR {
+            if LONGEST < feasible[j] {
+                return false;
+            }
+        }
+        j += 1;
+    }
+    true
+}
+
+fn fit_unit(unit: Held) -> bool
+    requires { ⌜ unit .count ≤ unitLimit ⌝ }
+    ensures { λ r. ⌜ r ≡ fitUnit (unitOf unit) ⌝ }
+{
+    let count = unit.count;
+    let me = unit.me;
+    let tree = unit.tree;
+    if count < 2 {
+        return false;
+    }
+    if count <= me {
+        return false;
+    }
+    if !fit_links(unit) {
+        return false;
+    }
+    if !heads::is_tree(&tree[..count], me) {
+        return false;
+    }
+    fit_feasible(unit)
+}
+
+// Whether two tables hold the same numbers.
+fn same_numbers(a: &[u32], b: &[u32]) -> bool
+    ensures { λ r. ⌜ r ≡ same (now (a .entry)) (now (b .entry)) ⌝ }
+{
+    if a.len() != b.len() {
+        return false;
+    }
+    let mut i = 0;
+    while i < a.len() {
+        if a[i] != b[i] {
+            return false;
+        }
+        i += 1;
+    }
+    true
+}
+
+pub fn is_fit(table: &[u32]) -> bool
+    ensures { λ r. ⌜ r ≡ fitUnitTable (now (table .entry)) ⌝ }
+{
+    if table.len() != WORDS {
+        return false;
+    }
+    if UNITS < table[0] as usize {
+        return false;
+    }
+    let unit = held::load(table);
+    if !fit_unit(unit) {
+        return false;
+    }
+    let costs = unit.costs;
+    let copies = unit.copies;
+    let through = through::through_neighbours(unit.count, costs, &copies);
+    let feasible = unit.feasible;
+    let sets = sets_over(unit.count, through, feasible);
+    let mut again = [0u32; WORDS];
+    held::lay(&mut again, unit, sets);
+    same_numbers(table, &again)
+}

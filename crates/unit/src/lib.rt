@@ -1,0 +1,11 @@
+mod event;
+mod fit;
+mod heads;
+mod held;
+mod links;
+mod noting;
+pub mod questions;
+mod recompute;
+mod send;
+mod shortest;
+mod through;

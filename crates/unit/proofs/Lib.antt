@@ -1,5 +1,6 @@
 -- Laws that several proofs of this crate cite.
 pub mod Answers
+pub mod Calling
 pub mod Choosing
 pub mod Composed
 pub mod Copies
@@ -8,9 +9,11 @@ pub mod Fitness
 pub mod Fresh
 pub mod HeldFit
 pub mod Holding
+pub mod MessageCalls
 pub mod Noted
 pub mod Reacting
 pub mod Recomputing
+pub mod Refusals
 pub mod Rounds
 pub mod Scanning
 pub mod Sending

@@ -18,7 +18,7 @@ pub const COPIES: usize = UNITS * UNITS;
 pub const WORDS: usize = 2 + 5 * UNITS + COPIES;
 
 // Where each row begins.
-const COSTS: usize = 2;
+pub const COSTS: usize = 2;
 
 const AWAITED: usize = COSTS + UNITS;
 

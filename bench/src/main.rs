@@ -1,0 +1,131 @@
+//! Measures the C border of one hub, and the second program beside it.
+//!
+//! Both sides are given the same calls, recorded once: a table as bytes and an
+//! event. Both read the table, test that it is fit, run the event, and lay out
+//! table and messages again.
+//!
+//! * `bench time`: events per second, for each network.
+//! * `bench once SHAPE COUNT`: each side once over the recorded events, for a
+//!   count of instructions by the functions [`with_product`] and
+//!   [`with_second`]; prints the number of events.
+//! * `bench stack`: the bytes of stack that a call uses, the most over all
+//!   events and questions of all networks.
+
+mod record;
+mod stack;
+
+use hubs::product::{ROOM, TAKEN};
+use hubs::table;
+use record::{Recorded, SHAPES};
+use std::env;
+use std::hint::black_box;
+use std::process::ExitCode;
+use std::time::{Duration, Instant};
+
+/// The counts of units that are measured.
+const COUNTS: [u32; 3] = [4, 8, 16];
+
+/// How long each side is measured.
+const LONG: Duration = Duration::from_millis(700);
+
+fn main() -> ExitCode {
+    let words: Vec<String> = env::args().skip(1).collect();
+    let words: Vec<&str> = words.iter().map(String::as_str).collect();
+    match words.as_slice() {
+        ["time"] => time(),
+        ["stack"] => stack(),
+        ["once", shape, count] => {
+            let Ok(count) = count.parse() else {
+                return ExitCode::from(2);
+            };
+            once(shape, count);
+        }
+        _ => {
+            eprintln!("usage: bench time | stack | once SHAPE COUNT");
+            return ExitCode::from(2);
+        }
+    }
+    ExitCode::SUCCESS
+}
+
+/// The product's border over all recorded events; answers the bytes sent.
+#[no_mangle]
+#[inline(never)]
+pub fn with_product(events: &[Recorded]) -> u64 {
+    let (mut table, mut out) = ([0; table::BYTES], [0; ROOM]);
+    let mut sent = 0;
+    for event in events {
+        table.copy_from_slice(&event.table);
+        let answer = event.call.of_product(&mut table, &mut out);
+        sent += u64::from(answer - TAKEN);
+        black_box((&table, &out));
+    }
+    sent
+}
+
+/// The second program over all recorded events; answers the bytes sent.
+#[no_mangle]
+#[inline(never)]
+pub fn with_second(events: &[Recorded]) -> u64 {
+    let (mut table, mut out) = ([0; table::BYTES], [0; ROOM]);
+    let mut sent = 0;
+    for event in events {
+        table.copy_from_slice(&event.table);
+        let answer = event.call.of_second_on_table(&mut table, &mut out);
+        sent += u64::from(answer - TAKEN);
+        black_box((&table, &out));
+    }
+    sent
+}
+
+fn time() {
+    println!(
+        "network    events/s, C border    events/s, second    ratio (above 1: C border faster)"
+    );
+    for shape in SHAPES {
+        for count in COUNTS {
+            let events = record::events(shape, count);
+            let product = per_second(&events, with_product);
+            let second = per_second(&events, with_second);
+            let ratio = product / second;
+            println!("{shape:5} {count:>2} {product:>21.0} {second:>19.0} {ratio:>8.2}");
+        }
+    }
+}
+
+/// Events per second, over as many rounds as fit the time.
+fn per_second(events: &[Recorded], side: fn(&[Recorded]) -> u64) -> f64 {
+    side(events);
+    let start = Instant::now();
+    let mut done = 0;
+    while start.elapsed() < LONG {
+        black_box(side(events));
+        done += events.len();
+    }
+    done as f64 / start.elapsed().as_secs_f64()
+}
+
+fn once(shape: &str, count: u32) {
+    let events = record::events(shape, count);
+    let (product, second) = (with_product(&events), with_second(&events));
+    assert_eq!(product, second, "both sides send the same");
+    println!("{}", events.len());
+}
+
+fn stack() {
+    let mut most = std::collections::BTreeMap::new();
+    for shape in SHAPES {
+        for count in COUNTS {
+            for (name, used) in stack::used(record::events(shape, count)) {
+                let kept = most.entry(name).or_insert(0);
+                *kept = used.max(*kept);
+            }
+        }
+    }
+    for (name, used) in &most {
+        println!("hub_{name:11} {used:>6} bytes");
+    }
+    let used = most.values().max().copied().unwrap_or(0);
+    let verdict = if used <= 16_384 { "within" } else { "ABOVE" };
+    println!("most           {used:>6} bytes, {verdict} 16,384");
+}

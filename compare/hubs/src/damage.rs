@@ -1,0 +1,223 @@
+//! Tables that no event left behind: fit ones made up, and reached ones with
+//! something changed or of another length. Refusal 2 is compared with what the
+//! second program says of the table, anything else with its own outcome.
+
+use crate::call::Call;
+use crate::run::{Difference, Outcome, Run};
+use crate::{draw, table};
+use second::rng::Rng;
+use second::tree::GREATEST_DISTANCE;
+use second::unit::Unit;
+
+/// Calls on made-up fit tables.
+pub fn compare_fit(run: &mut Run, tables: u32) -> Result<(), Difference> {
+    for _ in 0..tables {
+        let unit = draw::fit_unit(&mut run.rng);
+        let bytes = table::laid_out(&unit);
+        call(run, "made up", &bytes, &unit)?;
+        if run.rng.chance(20) {
+            run.reached.push(bytes);
+        }
+    }
+    Ok(())
+}
+
+/// Calls on damaged tables.
+pub fn compare_damaged(run: &mut Run, tables: u32) -> Result<(), Difference> {
+    for _ in 0..tables {
+        let Some(bytes) = run.rng.pick(&run.reached).cloned() else {
+            return Ok(());
+        };
+        let Ok(unit) = table::read(&bytes) else {
+            return Err(Difference(String::from("a reached table is unfit\n")));
+        };
+        let (part, damaged) = damaged(&mut run.rng, &unit, bytes);
+        call(run, part, &damaged, &unit)?;
+    }
+    Ok(())
+}
+
+/// One call on a table; the unit is what it held before the damage.
+fn call(run: &mut Run, part: &'static str, bytes: &[u8], unit: &Unit) -> Result<(), Difference> {
+    let call = if run.rng.chance(80) {
+        draw::event(&mut run.rng, unit)
+    } else {
+        question(&mut run.rng, u32::from(unit.count))
+    };
+    let room = draw::room(&mut run.rng);
+    let mut product = Outcome {
+        answer: 0,
+        table: bytes.to_vec(),
+        out: run.buffer(),
+    };
+    let mut second = product.clone();
+    product.answer = call.of_product(&mut product.table, &mut product.out[..room]);
+    second.answer = call.of_second_on_table(&mut second.table, &mut second.out[..room]);
+    run.compare(part, &call, bytes, room, [&product, &second])
+}
+
+fn question(rng: &mut Rng, count: u32) -> Call {
+    let to = rng.between(0, count + 1);
+    match rng.between(0, 3) {
+        0 => Call::Active,
+        1 => Call::Distance(to),
+        2 => Call::Feasible(to),
+        _ => Call::Successors(to),
+    }
+}
+
+/// A reached table with something changed, and what it was.
+fn damaged(rng: &mut Rng, unit: &Unit, mut bytes: Vec<u8>) -> (&'static str, Vec<u8>) {
+    match rng.between(0, 9) {
+        0 => {
+            for _ in 0..rng.between(1, 3) {
+                flip(rng, &mut bytes);
+            }
+            ("bits", bytes)
+        }
+        1 => {
+            let place = rng.between(0, table::BYTES as u32 - 1) as usize;
+            bytes[place] = rng.next_bits() as u8;
+            ("byte", bytes)
+        }
+        2 => ("length", other_length(rng, bytes)),
+        3..=6 => {
+            let place = word_place(rng, unit);
+            let other = word_place(rng, unit);
+            let word = match rng.between(0, 2) {
+                0 => word_at(&bytes, other),
+                1 => word_at(&bytes, place).wrapping_add(*rng.pick(&[1, u32::MAX]).unwrap_or(&1)),
+                _ => odd_word(rng),
+            };
+            set_word(&mut bytes, place, word);
+            ("word", bytes)
+        }
+        7 => {
+            let (a, b) = (word_place(rng, unit), word_place(rng, unit));
+            let (at_a, at_b) = (word_at(&bytes, a), word_at(&bytes, b));
+            set_word(&mut bytes, a, at_b);
+            set_word(&mut bytes, b, at_a);
+            ("swap", bytes)
+        }
+        _ => ("rule", against_a_rule(rng, unit)),
+    }
+}
+
+fn flip(rng: &mut Rng, bytes: &mut [u8]) {
+    let place = rng.between(0, table::BYTES as u32 - 1) as usize;
+    bytes[place] ^= 1 << rng.between(0, 7);
+}
+
+/// Cut short, or longer.
+fn other_length(rng: &mut Rng, mut bytes: Vec<u8>) -> Vec<u8> {
+    let whole = table::BYTES as u32;
+    let length = match rng.between(0, 5) {
+        0 => 0,
+        1 => whole - 4,
+        2 => whole - 1,
+        3 => whole + 1,
+        4 => whole + 4,
+        _ => rng.between(0, 2 * whole),
+    };
+    bytes.resize(length as usize, 0);
+    bytes
+}
+
+/// The index of a number, most often one that the unit's count uses.
+fn word_place(rng: &mut Rng, unit: &Unit) -> usize {
+    let row = rng.between(0, 20);
+    let column = if rng.chance(85) {
+        rng.between(0, u32::from(unit.count) - 1)
+    } else {
+        rng.between(0, 15)
+    };
+    let place = if rng.chance(5) {
+        rng.between(0, 1)
+    } else {
+        2 + 16 * row + column
+    };
+    place as usize
+}
+
+/// A number at a bound of some rule, or any.
+fn odd_word(rng: &mut Rng) -> u32 {
+    let entry = rng.between(0, 16) << 16 | rng.between(0, 3);
+    let bounds = [
+        0,
+        1,
+        2,
+        3,
+        15,
+        16,
+        17,
+        255,
+        65_535,
+        65_536,
+        GREATEST_DISTANCE,
+        GREATEST_DISTANCE + 1,
+        u32::MAX - 1,
+        u32::MAX,
+        entry,
+        entry,
+        entry,
+        255 << 16 | 1,
+        256 << 16 | 1,
+        rng.next_bits() as u32,
+    ];
+    *rng.pick(&bounds).unwrap_or(&0)
+}
+
+fn word_at(bytes: &[u8], place: usize) -> u32 {
+    let word = &bytes[4 * place..4 * place + 4];
+    word.iter().fold(0, |sum, &byte| sum << 8 | u32::from(byte))
+}
+
+fn set_word(bytes: &mut [u8], place: usize, word: u32) {
+    bytes[4 * place..4 * place + 4].copy_from_slice(&word.to_be_bytes());
+}
+
+/// One field of the unit changed, with successors by F again, so that no rule
+/// but the field's own can be broken; sometimes none is.
+fn against_a_rule(rng: &mut Rng, unit: &Unit) -> Vec<u8> {
+    let mut unit = unit.clone();
+    let count = unit.count;
+    let j = rng.between(0, u32::from(count) - 1) as u8;
+    let neighbours: Vec<u8> = unit.neighbours.keys().copied().collect();
+    let k = rng.pick(&neighbours).copied();
+    let neighbour = k.and_then(|k| unit.neighbours.get_mut(&k));
+    match (rng.between(0, 5), neighbour) {
+        (0, _) => unit.tree = loose(rng, count, unit.number, &unit.tree),
+        (1, Some(it)) => it.copy = loose(rng, count, it.copy.root, &it.copy),
+        (2, Some(it)) => it.awaited = !it.awaited,
+        (3, Some(it)) => it.cost = draw::legal_cost(rng),
+        _ => {
+            unit.feasible.insert(j, draw::distance(rng));
+        }
+    }
+    unit.successors = (0..count).map(|j| (j, unit.successors_by_f(j))).collect();
+    table::laid_out(&unit)
+}
+
+/// A tree with an entry set to any head, also of its root: a circle, a loose
+/// end, a head above the count, or a tree.
+fn loose(
+    rng: &mut Rng,
+    count: u8,
+    root: second::tree::UnitNumber,
+    tree: &second::tree::Tree,
+) -> second::tree::Tree {
+    let mut tree = tree.clone();
+    let unit = if rng.chance(10) {
+        root
+    } else {
+        rng.between(0, u32::from(count) - 1) as u8
+    };
+    let head = if rng.chance(85) {
+        rng.between(0, u32::from(count) - 1) as u8
+    } else {
+        rng.between(0, 17) as u8
+    };
+    let cost = rng.between(0, 9) as u16;
+    tree.entries.insert(unit, second::tree::Link { head, cost });
+    tree
+}

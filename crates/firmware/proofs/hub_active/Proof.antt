@@ -1,0 +1,30 @@
+-- `firmware::hub_active` meets its contract: a table of another length is unfit; else the question is put to the numbers.
+use borrow.Author.Needs.{needs}
+use Rattle.rules.specs.Hub.{activeAnswer}
+use Rattle.firmware.proofs.Borders.{wrong-asked, right-asked}
+use Rattle.firmware.proofs.hub_active.Statement.{statement}
+use Rattle.firmware.proofs.hub_active.Tie as tie
+
+returns : tie.Need-returns
+returns c =
+    let args = c .before .before .args in
+    wrong-asked (args .table .now) activeAnswer (c .if1 .taken)
+
+words-requires : tie.Need-words-requires
+words-requires c κs = search needs
+
+slice-aggregate-active : tie.Need-slice-aggregate-active
+slice-aggregate-active c = search needs
+
+active-requires : tie.Need-active-requires
+active-requires c κs = search needs
+
+returns-2 : tie.Need-returns-2
+returns-2 c =
+    let tested = c .before .before .before in
+    let args = tested .before .before .args in
+    right-asked (args .table .now) activeAnswer _ _ (tested .if1 .left) (c .before .before .words .ensures) (c .active .ensures)
+
+pub hub-active-spec : {M : Type 1} → statement M
+hub-active-spec =
+    tie.close (tie.spec returns words-requires slice-aggregate-active active-requires returns-2)

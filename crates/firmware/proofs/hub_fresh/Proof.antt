@@ -1,0 +1,66 @@
+-- `firmware::hub_fresh` meets its contract: the tests are the definition's, in its order; past them the crate `unit` lays the numbers.
+use native.Mathlib.Omega.{arith}
+use borrow.Author.Needs.{needs}
+use Rattle.ground.proofs.Limits.{count-legal, count-low, count-high}
+use Rattle.firmware.proofs.Borders.{fresh-count, fresh-length, fresh-right}
+use Rattle.firmware.proofs.hub_fresh.Statement.{statement}
+use Rattle.firmware.proofs.hub_fresh.Tie as tie
+
+returns : tie.Need-returns
+returns c =
+    let args = c .before .before .args in
+    fresh-count (args .table .now) (args .count) (args .me) (λ i. omega (arith, c .before .slice-known .given i)) (count-low _ (c .if1 .taken))
+
+cast-if2 : tie.Need-cast-if2
+cast-if2 c = search needs
+
+returns-2 : tie.Need-returns-2
+returns-2 c =
+    let args = c .before .before .before .args in
+    fresh-count (args .table .now) (args .count) (args .me) (λ i. omega (arith, c .before .before .slice-known .given i)) (count-high _ (c .if2 .taken))
+
+returns-3 : tie.Need-returns-3
+returns-3 c =
+    let args = c .before .before .before .before .args in
+    fresh-length (args .table .now) (args .count) (args .me) (count-legal _ (c .before .before .if1 .left) (c .before .if2 .left)) (c .if3 .taken)
+
+words-requires : tie.Need-words-requires
+words-requires c κs = search needs
+
+slice-aggregate-fresh : tie.Need-slice-aggregate-fresh
+slice-aggregate-fresh c = search needs
+
+fresh-requires : tie.Need-fresh-requires
+fresh-requires c κs = search needs
+
+put-words-requires : tie.Need-put-words-requires
+put-words-requires c κs = search needs
+
+same-length : tie.Need-same-length
+same-length c = search needs
+
+returns-4 : tie.Need-returns-4
+returns-4 c =
+    let called = c .before .before .before .before .before in
+    let tested = called .before .before .before .before in
+    let args = tested .before .before .before .before .args in
+    fresh-right (args .table .now) (args .count) (args .me) _ _ _ _
+    (tested .if3 .left)
+    (called .before .before .words .ensures)
+    (called .fresh .ensures)
+    (c .before .before .put-words .ensures)
+
+pub hub-fresh-spec : {M : Type 1} → statement M
+hub-fresh-spec =
+    tie.close
+    (tie.spec
+    returns
+    cast-if2
+    returns-2
+    returns-3
+    words-requires
+    slice-aggregate-fresh
+    fresh-requires
+    put-words-requires
+    same-length
+    returns-4)

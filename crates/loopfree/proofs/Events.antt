@@ -15,12 +15,12 @@ use Rattle.ground.specs.Limits.{highestCost}
 use Rattle.ground.specs.Rows.{at, zeros}
 use Rattle.tree.specs.Recompute.{copyOf}
 use Rattle.tree.specs.Tree.{isTree}
+use Rattle.tree.proofs.Rooted.{zeros-tree}
 use Rattle.rules.specs.Event.{received, linkUp, newCost, linkDown, noted}
 use Rattle.rules.specs.Message.{Message, holdsUpdate, holdsAcknowledgment, applied}
 use Rattle.rules.specs.Unit.{Unit}
 use Rattle.loopfree.proofs.Cases.{by-test, by-equal}
 use Rattle.loopfree.proofs.Sound.{Links, linksOf, SoundLinks, Sound, Touch}
-use Rattle.loopfree.proofs.Trees.{zeros-tree}
 
 -- The tables of links with another cost to b; another copy of b's tree; no wait on b.
 abbrev withCost : Links → (b c : ℕ) → Links

@@ -19,6 +19,7 @@ use Rattle.ground.proofs.Rows.{tab-at, length-tab}
 use Rattle.ground.proofs.Tests.{both, neither}
 use Rattle.tree.specs.Recompute.{copyOf}
 use Rattle.tree.specs.Tree.{distance, isTree}
+use Rattle.tree.proofs.Rooted.{zeros-tree}
 use Rattle.tree.proofs.Tree.{distance-none}
 use Rattle.rules.specs.Event.{received, messageRefusal, changesNothing}
 use Rattle.rules.specs.Message.{Message, holdsAcknowledgment, applied}
@@ -34,7 +35,6 @@ use Rattle.loopfree.proofs.Invariant.{Direction, Holds, Any}
 use Rattle.loopfree.proofs.Sent.{none}
 use Rattle.loopfree.proofs.Sound.{Home}
 use Rattle.loopfree.proofs.Shape.{Shape}
-use Rattle.loopfree.proofs.Trees.{zeros-tree}
 
 -- Where no refusal of a list is given, the first, whose number is one above k, does not apply, and no other is given.
 passed : (condition : Bool) (k rest : ℕ) → condition gives suc k otherwise rest ≡ accepted

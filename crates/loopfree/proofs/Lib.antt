@@ -11,7 +11,6 @@ pub mod Invariant
 pub mod Kept
 pub mod NoCircle
 pub mod Reaction
-pub mod Recomputed
 pub mod Sent
 pub mod Shape
 pub mod Sound

@@ -14,19 +14,20 @@ use Rattle.ground.specs.Rows.{at, zeros, same}
 use Rattle.ground.proofs.Rows.{length-tab, eq-same, some-at}
 use Rattle.ground.proofs.Tests.{if-false, both, not-yes, not-both}
 use Rattle.tree.specs.Tree.{isTree}
+use Rattle.tree.proofs.Recomputed.{recomputed-tree}
+use Rattle.tree.proofs.Rooted.{tree-length}
 use Rattle.rules.specs.Event.{Event, Reaction, newTree, newFeasible, changed, isNew, isAcknowledged, isSentUpdate}
 use Rattle.rules.specs.Event.{differencesFor, newAwaited, messageTo, reactionWith, reaction}
 use Rattle.rules.specs.Message.{Message, applied}
 use Rattle.rules.specs.Unit.{Unit, isNeighbour, awaits, isActive}
+use Rattle.rules.proofs.TreeEntries.{tree-short}
 use Rattle.loopfree.proofs.Cases.{by-test}
 use Rattle.loopfree.proofs.Differences.{differences-carry}
 use Rattle.loopfree.proofs.Exchange.{Line, oneIf, acksIn, line-sent, line-kept}
 use Rattle.loopfree.proofs.Feasible.{passive-waits, tree-kept, tree-new, feasible-own, feasible-copied}
-use Rattle.loopfree.proofs.Recomputed.{recomputed-tree}
 use Rattle.loopfree.proofs.Sent.{From, updateTo, answerTo, update-holds, answer-holds, message-is, message-acks}
 use Rattle.loopfree.proofs.Sent.{message-from, sends-why, keeps-why, awaited-is, sent-at}
 use Rattle.loopfree.proofs.Sound.{Links, having, Sound, Home, Touch}
-use Rattle.loopfree.proofs.Trees.{tree-length, tree-carried}
 
 -- What k should know when the event begins: the unit's tree, or the empty one where k is new.
 abbrev pub knownBy : Unit → Event → (k : ℕ) → List ℕ
@@ -77,7 +78,7 @@ module _ (u : Unit) (e : Event) (b : ℕ) (t : Links) (here : u .me < u .count) 
       rw (tree-kept u afterA (w .0) (w .1)) (sound .rooted))
       (λ a. rw (tree-new u afterA a)
       (recomputed-tree (u .count) (u .me) (t .costs) (t .copies) here
-      (λ k h. touch .links .legal k) (touch .links .copied)))
+      (λ k h. touch .links .legal k) (λ k h up. touch .links .copied k h)))
 
   -- The reaction leaves the unit sound.
   sound-after : Sound after
@@ -112,7 +113,7 @@ module _ (u : Unit) (e : Event) (b : ℕ) (t : Links) (here : u .me < u .count) 
     update-carries : applied (knownBy u e k) (differencesFor u e tree′ k) ≡ tree′
     unfolding differencesFor
     update-carries =
-        differences-carry (knownBy u e k) tree′ (tree-carried (u .count) (u .me) tree′ few tree-rooted) (u .count)
+        differences-carry (u .count) (knownBy u e k) tree′ (tree-short (u .count) (u .me) tree′ tree-rooted few)
         known-length (tree-length (u .count) (u .me) tree′ tree-rooted)
 
     -- The direction from the unit to k, from what it is after step A to what it is after the reaction.

@@ -62,7 +62,7 @@ fn legal_changes(count: u32, sender: u32, changes: &[u32]) -> bool
 }
 
 // The fields are those of a legal message of a network of `count` units.
-pub fn legal_fields(count: u32, kind: u32, sender: u32, changes: &[u32]) -> bool
+pub(crate) fn legal_fields(count: u32, kind: u32, sender: u32, changes: &[u32]) -> bool
     ensures { λ r. ⌜ r ≡ legalMessage count (fieldsOf kind sender (now (changes .entry))) ⌝ }
 {
     if count <= sender {

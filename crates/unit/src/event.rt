@@ -30,7 +30,7 @@ pub struct Reacted {
 }
 
 // Whether the unit awaits an acknowledgment.
-pub fn is_active(unit: Held) -> bool
+pub(crate) fn is_active(unit: Held) -> bool
     requires { ⌜ unit .count ≤ unitLimit ⌝ }
     ensures { λ r. ⌜ r ≡ isActive (unitOf unit) ⌝ }
 {
@@ -239,7 +239,7 @@ fn new_awaited(
 
 // The whole of steps B to F. `was` says whether the unit was ACTIVE before step A; `new` is the neighbour whose link came
 // up, `owed` the one that is owed an acknowledgment, each the count where there is none.
-pub fn react(unit: Held, was: bool, new: usize, owed: usize, out: &mut [u8]) -> Reacted
+pub(crate) fn react(unit: Held, was: bool, new: usize, owed: usize, out: &mut [u8]) -> Reacted
     requires { ⌜ FitHeld unit × ((owed ≡ unit .me) → ⊥) × (firmwareRoom ≤ length (now out)) ⌝ }
     ensures reacted { λ r. ⌜ r ≡ reactedOf (unitOf unit) was new owed ⌝ }
     ensures sent { λ r. ⌜ now (out .exit) ≡ reactedOut (unitOf unit) was new owed (now (out .entry)) ⌝ }

@@ -37,7 +37,7 @@ fn set_over(count: usize, through: [[u32; UNITS]; UNITS], feasible: [u32; UNITS]
 }
 
 // The successor sets of all destinations.
-pub fn sets_over(
+pub(crate) fn sets_over(
     count: usize,
     through: [[u32; UNITS]; UNITS],
     feasible: [u32; UNITS],
@@ -175,7 +175,7 @@ fn same_numbers(a: &[u32], b: &[u32]) -> bool
     true
 }
 
-pub fn is_fit(table: &[u32]) -> bool
+pub(crate) fn is_fit(table: &[u32]) -> bool
     ensures { λ r. ⌜ r ≡ fitUnitTable (now (table .entry)) ⌝ }
 {
     if table.len() != WORDS {

@@ -6,14 +6,14 @@ ghost use Rattle.tree.specs.Tree.{plus as sum, distanceWithin, legalEntry, isTr
 use ground::FAR;
 
 // The sum of two distances, unreachable where it would pass the largest number.
-pub fn plus(a: u32, b: u32) -> u32
+pub(crate) fn plus(a: u32, b: u32) -> u32
     ensures { λ r. ⌜ r ≡ sum a b ⌝ }
 {
     if FAR - a < b { FAR } else { a + b }
 }
 
 // The distance of unit j from the root, found by recursing on its head; `left` links remain.
-pub fn distance(tree: &[u32], root: usize, left: usize, j: usize) -> u32
+pub(crate) fn distance(tree: &[u32], root: usize, left: usize, j: usize) -> u32
     ensures { λ r. ⌜ r ≡ distanceWithin root (now (tree .entry)) left j ⌝ }
 {
     if j == root {
@@ -57,7 +57,7 @@ fn legal_entry(tree: &[u32], root: usize, j: usize) -> bool
 }
 
 // Whether a row with a place for each unit is a tree rooted at `root`.
-pub fn is_tree(tree: &[u32], root: usize) -> bool
+pub(crate) fn is_tree(tree: &[u32], root: usize) -> bool
     ensures { λ r. ⌜ r ≡ isTree (length (now (tree .entry))) root (now (tree .entry)) ⌝ }
 {
     let mut j = 0;

@@ -74,7 +74,7 @@ fn copies(table: &[u32], count: usize) -> [u32; COPIES]
 }
 
 // The unit that a table of the right length and a count up to the limit hold.
-pub fn load(table: &[u32]) -> Held
+pub(crate) fn load(table: &[u32]) -> Held
     requires { ⌜ (length (now table) ≡ unitWords) × (at (now table) 0 ≤ unitLimit) ⌝ }
     ensures { λ r. ⌜ r ≡ heldOf (unitFrom (now (table .entry))) ⌝ }
 {
@@ -115,7 +115,7 @@ fn put_copies(table: &mut [u32], numbers: [u32; COPIES])
 }
 
 // The unit and its successor sets, laid over the whole table.
-pub fn lay(table: &mut [u32], unit: Held, successors: [u32; UNITS])
+pub(crate) fn lay(table: &mut [u32], unit: Held, successors: [u32; UNITS])
     requires { ⌜ (length (now table) ≡ unitWords) × (unit .count ≤ unitLimit) × (unit .me ≤ unitLimit) ⌝ }
     ensures { λ r. ⌜ now (table .exit) ≡ laidWith unit successors ⌝ }
 {

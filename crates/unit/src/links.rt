@@ -53,7 +53,7 @@ fn copied_row(copies: &[u32], count: usize, k: usize, i: usize) -> [u32; UNITS]
 }
 
 // A row of links out of each unit.
-pub fn taken_links(
+pub(crate) fn taken_links(
     count: usize,
     me: usize,
     costs: [u32; UNITS],

@@ -34,7 +34,7 @@ fn with_copy(copies: [u32; COPIES], k: usize, row: [u32; UNITS]) -> [u32; COPIES
 }
 
 // The copy of unit k's tree.
-pub fn copy_of(unit: Held, k: usize) -> [u32; UNITS]
+pub(crate) fn copy_of(unit: Held, k: usize) -> [u32; UNITS]
     requires { ⌜ Padded unit × (k < unit .count) ⌝ }
     ensures { λ r. ⌜ r ≡ laidRow (copyOf (unitOf unit .copies) k) ⌝ }
 {
@@ -57,7 +57,7 @@ fn entry_of(body: u32) -> u32
 }
 
 // A copy with all changes made.
-pub fn applied(copy: [u32; UNITS], changes: &[u32]) -> [u32; UNITS]
+pub(crate) fn applied(copy: [u32; UNITS], changes: &[u32]) -> [u32; UNITS]
     requires { ⌜ UnitsBelow unitLimit (now changes) ⌝ }
     ensures { λ r. ⌜ r ≡ appliedTo copy (now (changes .entry)) ⌝ }
 {
@@ -73,7 +73,7 @@ pub fn applied(copy: [u32; UNITS], changes: &[u32]) -> [u32; UNITS]
 }
 
 // Whether some change leaves the copy's entry as it is.
-pub fn changes_nothing(copy: [u32; UNITS], changes: &[u32]) -> bool
+pub(crate) fn changes_nothing(copy: [u32; UNITS], changes: &[u32]) -> bool
     requires { ⌜ UnitsBelow unitLimit (now changes) ⌝ }
     ensures { λ r. ⌜ r ≡ changesNothing copy (now (changes .entry)) ⌝ }
 {
@@ -107,7 +107,7 @@ fn with_links(unit: Held, costs: [u32; UNITS], awaited: [u32; UNITS], copies: [u
 }
 
 // Link up: the cost set, the copy empty.
-pub fn link_up(unit: Held, k: usize, cost: u32) -> Held
+pub(crate) fn link_up(unit: Held, k: usize, cost: u32) -> Held
     requires { ⌜ Padded unit × (k < unit .count) ⌝ }
     ensures { λ r. ⌜ r ≡ heldOf (noted (unitOf unit) (linkUp k cost)) ⌝ }
 {
@@ -119,7 +119,7 @@ pub fn link_up(unit: Held, k: usize, cost: u32) -> Held
 }
 
 // Cost: the cost set.
-pub fn new_cost(unit: Held, k: usize, cost: u32) -> Held
+pub(crate) fn new_cost(unit: Held, k: usize, cost: u32) -> Held
     requires { ⌜ Padded unit × (k < unit .count) ⌝ }
     ensures { λ r. ⌜ r ≡ heldOf (noted (unitOf unit) (newCost k cost)) ⌝ }
 {
@@ -131,7 +131,7 @@ pub fn new_cost(unit: Held, k: usize, cost: u32) -> Held
 }
 
 // Link down: cost, copy and wait removed.
-pub fn link_down(unit: Held, k: usize) -> Held
+pub(crate) fn link_down(unit: Held, k: usize) -> Held
     requires { ⌜ Padded unit × (k < unit .count) ⌝ }
     ensures { λ r. ⌜ r ≡ heldOf (noted (unitOf unit) (linkDown k)) ⌝ }
 {
@@ -144,7 +144,7 @@ pub fn link_down(unit: Held, k: usize) -> Held
 }
 
 // A message: its acknowledgment clears the wait on the sender, its update changes the sender's copy.
-pub fn received(unit: Held, kind: u32, sender: usize, changes: &[u32]) -> Held
+pub(crate) fn received(unit: Held, kind: u32, sender: usize, changes: &[u32]) -> Held
     requires { ⌜ Padded unit × (sender < unit .count) × UnitsBelow (unit .count) (now changes) ⌝ }
     ensures { λ r. ⌜ r ≡ heldOf (noted (unitOf unit) (receivedMessage (fieldsOf kind sender (now (changes .entry))))) ⌝ }
 {

@@ -61,7 +61,7 @@ fn tree_over(
 }
 
 // The recomputed tree, from the unit's link costs, its copies and the distances through its neighbours.
-pub fn recomputed(
+pub(crate) fn recomputed(
     count: usize,
     me: usize,
     costs: [u32; UNITS],

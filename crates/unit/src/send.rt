@@ -112,7 +112,7 @@ fn lay_one(
 }
 
 // The messages to all neighbours, rising. Answers the bytes used.
-pub fn send(
+pub(crate) fn send(
     unit: Held,
     tree: [u32; UNITS],
     changed: bool,

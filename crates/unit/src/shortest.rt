@@ -65,7 +65,7 @@ fn relax(count: usize, distances: [u32; UNITS], i: usize, row: [u32; UNITS]) -> 
     lower
 }
 
-pub fn shortest(count: usize, me: usize, links: [[u32; UNITS]; UNITS]) -> [u32; UNITS]
+pub(crate) fn shortest(count: usize, me: usize, links: [[u32; UNITS]; UNITS]) -> [u32; UNITS]
     requires { ⌜ (count ≤ unitLimit) × (me < count) × Links count links ⌝ }
     ensures { λ r. ⌜ r ≡ filled unitLimit (shortestDistances count me links) ⌝ }
 {

@@ -28,7 +28,7 @@ fn copy_row(copies: &[u32], count: usize, k: usize) -> [u32; UNITS]
 }
 
 // A row of unreachable, for a unit whose link is down.
-pub fn far_row(count: usize) -> [u32; UNITS]
+pub(crate) fn far_row(count: usize) -> [u32; UNITS]
     requires { ⌜ count ≤ unitLimit ⌝ }
     ensures { λ r. ⌜ r ≡ filled unitLimit (tab count (λ j. far)) ⌝ }
 {
@@ -42,7 +42,7 @@ pub fn far_row(count: usize) -> [u32; UNITS]
 }
 
 // A row of distances for each neighbour, returned filled.
-pub fn through_neighbours(
+pub(crate) fn through_neighbours(
     count: usize,
     costs: [u32; UNITS],
     copies: &[u32],
@@ -82,7 +82,11 @@ fn preferred_for(count: usize, costs: [u32; UNITS], through: [[u32; UNITS]; UNIT
     best as u32
 }
 
-pub fn preferred(count: usize, costs: [u32; UNITS], through: [[u32; UNITS]; UNITS]) -> [u32; UNITS]
+pub(crate) fn preferred(
+    count: usize,
+    costs: [u32; UNITS],
+    through: [[u32; UNITS]; UNITS],
+) -> [u32; UNITS]
     requires { ⌜ count ≤ unitLimit ⌝ }
     ensures { λ r. ⌜ r ≡ filled unitLimit (preferences count costs through) ⌝ }
 {

@@ -12,14 +12,13 @@ ghost use Rattle.rules.specs.Border.{tableBytes, borderAnswer, borderTable, bor
 ghost use Rattle.rules.specs.Hub.{hubUp, hubCost, hubDown, hubMessage};
 ghost use Rattle.rules.specs.Tables.{bytesOf, wordsOf};
 ghost use Rattle.firmware.specs.Words.{wordAt};
+use ground::UNIT_WORDS;
 use ground::UNITS;
 use unit::calls;
 use unit::questions;
 
-// The numbers in a unit's table, and the bytes that they are laid as.
-const WORDS: usize = 2 + 5 * UNITS + UNITS * UNITS;
-
-const TABLE_BYTES: usize = 4 * WORDS;
+// The bytes of a unit's table.
+const TABLE_BYTES: usize = 4 * UNIT_WORDS;
 
 // The number in the 4 bytes from `at` on.
 fn word(bytes: &[u8], at: usize) -> u32
@@ -40,13 +39,13 @@ fn wide(b: u8) -> u32
 }
 
 // The numbers of a table.
-fn words(bytes: &[u8]) -> [u32; WORDS]
+fn words(bytes: &[u8]) -> [u32; UNIT_WORDS]
     requires { ⌜ length (now bytes) ≡ tableBytes ⌝ }
     ensures { λ r. ⌜ r ≡ wordsOf (now (bytes .entry)) ⌝ }
 {
-    let mut numbers = [0u32; WORDS];
+    let mut numbers = [0u32; UNIT_WORDS];
     let mut i = 0;
-    while i < WORDS {
+    while i < UNIT_WORDS {
         numbers[i] = word(bytes, 4 * i);
         i += 1;
     }
@@ -54,12 +53,12 @@ fn words(bytes: &[u8]) -> [u32; WORDS]
 }
 
 // The numbers, written over a table.
-fn put_words(bytes: &mut [u8], numbers: [u32; WORDS])
+fn put_words(bytes: &mut [u8], numbers: [u32; UNIT_WORDS])
     requires { ⌜ length (now bytes) ≡ tableBytes ⌝ }
     ensures { λ r. ⌜ now (bytes .exit) ≡ bytesOf numbers ⌝ }
 {
     let mut i = 0;
-    while i < WORDS {
+    while i < UNIT_WORDS {
         let number = numbers[i];
         bytes[4 * i] = (number / 16777216 % 256) as u8;
         bytes[4 * i + 1] = (number / 65536 % 256) as u8;

@@ -16,7 +16,15 @@ pub const FIRMWARE_ROOM: usize = ENTRIES * (1 + MESSAGE_ROOM);
 // The highest link cost, and the longest distance.
 pub const HIGHEST_COST: u32 = 65535;
 
-pub const LONGEST: u32 = 15 * HIGHEST_COST;
+pub const LONGEST: u32 = (ENTRIES as u32) * HIGHEST_COST;
 
 // The distance of what can't be reached, above all others.
 pub const FAR: u32 = 4294967295;
+
+// The body of a change that removes an entry: head 255 and cost 0.
+pub const REMOVED: u32 = 255 * 65536;
+
+// The numbers in all copies of a unit, and in its whole table.
+pub const COPIES: usize = UNITS * UNITS;
+
+pub const UNIT_WORDS: usize = 2 + 5 * UNITS + COPIES;

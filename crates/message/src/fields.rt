@@ -2,9 +2,7 @@
 ghost use mathlib.Core.Path.{_≡_};
 ghost use Rattle.rules.specs.Message.{legalBody, legalChanges, legalMessage};
 ghost use Rattle.message.specs.Fields.{legalFrom, fieldsOf};
-
-// The first byte of a body that removes an entry, with a cost of 0.
-const REMOVED: u32 = 255 * 65536;
+use ground::REMOVED;
 
 // A body sets a head and a cost for its unit, or removes its entry.
 fn legal_body(count: u32, unit: u32, body: u32) -> bool

@@ -11,11 +11,11 @@ ghost use Rattle.unit.specs.Successors.{setOver, setsOver};
 use crate::heads;
 use crate::held;
 use crate::held::Held;
-use crate::held::WORDS;
 use crate::through;
 use ground::FAR;
 use ground::HIGHEST_COST;
 use ground::LONGEST;
+use ground::UNIT_WORDS;
 use ground::UNITS;
 
 // The successor set of destination j, the sum of 2 to the power k over its successors k.
@@ -178,7 +178,7 @@ fn same_numbers(a: &[u32], b: &[u32]) -> bool
 pub(crate) fn is_fit(table: &[u32]) -> bool
     ensures { λ r. ⌜ r ≡ fitUnitTable (now (table .entry)) ⌝ }
 {
-    if table.len() != WORDS {
+    if table.len() != UNIT_WORDS {
         return false;
     }
     if UNITS < table[0] as usize {
@@ -193,7 +193,7 @@ pub(crate) fn is_fit(table: &[u32]) -> bool
     let through = through::through_neighbours(unit.count, costs, &copies);
     let feasible = unit.feasible;
     let sets = sets_over(unit.count, through, feasible);
-    let mut again = [0u32; WORDS];
+    let mut again = [0u32; UNIT_WORDS];
     held::lay(&mut again, unit, sets);
     same_numbers(table, &again)
 }

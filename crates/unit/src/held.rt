@@ -10,12 +10,8 @@ ghost use Rattle.ground.specs.Rows.{at, filled};
 ghost use Rattle.rules.specs.Tables.{unitWords, part, unitFrom, copyAt};
 ghost use Rattle.unit.specs.Flat.{flatLength};
 ghost use Rattle.unit.specs.Holding.{heldOf, laidWith, flatCopies};
+use ground::COPIES;
 use ground::UNITS;
-
-// The numbers in all copies, and in a unit's table.
-pub const COPIES: usize = UNITS * UNITS;
-
-pub const WORDS: usize = 2 + 5 * UNITS + COPIES;
 
 // Where each row begins.
 pub const COSTS: usize = 2;

@@ -11,12 +11,10 @@ ghost use Rattle.tree.specs.Recompute.{copyOf};
 ghost use Rattle.message.specs.Fields.{fieldsOf};
 ghost use Rattle.unit.specs.Holding.{heldOf, unitOf};
 ghost use Rattle.unit.specs.Noting.{Padded, UnitsBelow};
-use crate::held::COPIES;
 use crate::held::Held;
+use ground::COPIES;
+use ground::REMOVED;
 use ground::UNITS;
-
-// The body of a change that removes an entry.
-const REMOVED: u32 = 255 * 65536;
 
 // The copies with another row for unit k.
 fn with_copy(copies: [u32; COPIES], k: usize, row: [u32; UNITS]) -> [u32; COPIES]

@@ -11,10 +11,10 @@ use crate::event;
 use crate::fit;
 use crate::heads;
 use crate::held;
-use crate::held::COPIES;
 use crate::held::Held;
-use crate::held::WORDS;
+use ground::COPIES;
 use ground::FAR;
+use ground::UNIT_WORDS;
 use ground::UNITS;
 
 // Feasible distances of the fresh unit: 0 to itself, unreachable to others.
@@ -42,7 +42,7 @@ pub fn fresh(count: u32, me: u32, table: &mut [u32]) -> u32
     if (UNITS as u32) < count {
         return 1;
     }
-    if table.len() != WORDS {
+    if table.len() != UNIT_WORDS {
         return 2;
     }
     if count <= me {

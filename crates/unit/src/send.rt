@@ -11,12 +11,10 @@ ghost use Rattle.rules.specs.Message.{change as changeTo, bodyFor, differences 
 ghost use Rattle.unit.specs.Holding.{unitOf};
 ghost use Rattle.unit.specs.Sending.{Small, listed, kindFor, bytesTo, laidAfter, Sendable, SendableAll, sentBytes};
 use crate::held::Held;
+use ground::REMOVED;
 use ground::UNITS;
 use message::writer;
 use message::writer::Written;
-
-// The body of a change that removes an entry.
-const REMOVED: u32 = 255 * 65536;
 
 // Changes of a tree, one number each, and zeros after the last.
 pub struct Changes {

@@ -1,6 +1,7 @@
 -- Laws of rows, tests and limits, and the pigeonhole.
 pub mod Bits
 pub mod Choices
+pub mod Each
 pub mod Filled
 pub mod Filling
 pub mod Joined

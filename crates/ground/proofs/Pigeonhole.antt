@@ -1,6 +1,6 @@
 -- Numbers below n that are pairwise distinct are at most n. A list of distinct numbers is built from `alone` by
--- `apart`, which asks that the number added differs from each that is there; `each-of` builds that from the places of a
--- list. `Many P k` hides the list: there are k distinct numbers of which P holds.
+-- `apart`, which asks that the number added differs from each that is there. `Many P k` hides the list: there are k
+-- distinct numbers of which P holds.
 use Prim.Native.Nat.{ℕ, zero, suc, _≤_, _<_, zero-le, suc-le-suc}
 use native.Mathlib.Nat.{not-suc-le-zero, le-refl}
 use native.Mathlib.Omega.{arith}
@@ -8,13 +8,8 @@ use mathlib.Core.List.{List, [], _∷_}
 use mathlib.Core.Logic.{_≢_, ⊎-elim}
 use mathlib.Core.Path.{_≡_, refl, ap}
 use lib.ListN.{length}
-use Rattle.ground.specs.Rows.{at}
+use Rattle.ground.proofs.Each.{Each, none, one, each-first, each-rest, each-map}
 use Rattle.ground.proofs.Rows.{below-suc}
-
--- P holds of each number of a list.
-pub data Each (P : ℕ → Type 0) : List ℕ → Type 0 where
-  none : Each P []
-  one : {x : ℕ} {xs : List ℕ} → P x → Each P xs → Each P (x ∷ xs)
 
 -- The numbers of a list are pairwise distinct.
 pub data Distinct : List ℕ → Type 0 where
@@ -25,22 +20,6 @@ pub data Distinct : List ℕ → Type 0 where
 abbrev pub Below : ℕ → List ℕ → Type 0
 Below n xs = Each (λ x. x < n) xs
 
--- Where P holds of each number and Q follows from P, Q holds of each.
-pub each-map : {P Q : ℕ → Type 0} {xs : List ℕ} → ((x : ℕ) → P x → Q x) → Each P xs → Each Q xs
-each-map f none = none
-each-map f (one {x = x} p ps) = one (f x p) (each-map f ps)
-
--- What holds of each number holds of the number at each place.
-pub each-at : {P : ℕ → Type 0} {xs : List ℕ} → Each P xs → (i : ℕ) → i < length xs → P (at xs i)
-each-at none i h = absurd (not-suc-le-zero h)
-each-at (one p ps) zero h = p
-each-at (one p ps) (suc i) h = each-at ps i (omega arith)
-
--- What holds of the number at each place holds of each number.
-pub each-of : {P : ℕ → Type 0} (xs : List ℕ) → ((i : ℕ) → i < length xs → P (at xs i)) → Each P xs
-each-of [] h = none
-each-of (x ∷ xs) h = one (h zero (omega arith)) (each-of xs (λ i l. h (suc i) (suc-le-suc l)))
-
 -- Distinct numbers below suc n, without n: distinct, below n, at most one less, and among them none that was not there.
 record Fewer (n : ℕ) (xs : List ℕ) : Type 0 where
   rest : List ℕ
@@ -49,17 +28,10 @@ record Fewer (n : ℕ) (xs : List ℕ) : Type 0 where
   count : length xs ≤ suc (length rest)
   absent : (a : ℕ) → Each (λ y. a ≢ y) xs → Each (λ y. a ≢ y) rest
 
--- What holds of each number of a list holds of its first, and of each of the others.
-tail : {P : ℕ → Type 0} {x : ℕ} {xs : List ℕ} → Each P (x ∷ xs) → Each P xs
-tail (one p ps) = ps
-
-first : {P : ℕ → Type 0} {x : ℕ} {xs : List ℕ} → Each P (x ∷ xs) → P x
-first (one p ps) = p
-
 -- Where none is n, what is below suc n is below n.
 lower : {n x : ℕ} {xs : List ℕ} → x ≡ n → Each (λ y. x ≢ y) xs → Below (suc n) xs → Below n xs
 lower e none b = none
-lower e (one {x = y} a more) b = one {x = y} (omega (arith, first b)) (lower e more (tail b))
+lower e (one {x = y} a more) b = one {x = y} (omega (arith, each-first b)) (lower e more (each-rest b))
 
 -- They exist: n is left out where it stands.
 fewer : (n : ℕ) {xs : List ℕ} → Distinct xs → Below (suc n) xs → Fewer n xs
@@ -67,17 +39,17 @@ fewer n alone b = record { rest = []; distinct = alone; below = none; count = ze
 fewer n (apart {x = x} {xs = xs} a d) b =
     ⊎-elim
     dropped
-    (λ l. kept l (fewer n d (tail b)))
-    (below-suc (first b))
+    (λ l. kept l (fewer n d (each-rest b)))
+    (below-suc (each-first b))
   where
     dropped : x ≡ n → Fewer n (x ∷ xs)
     dropped e =
         record {
           rest = xs;
           distinct = d;
-          below = lower e a (tail b);
+          below = lower e a (each-rest b);
           count = le-refl (suc (length xs));
-          absent = λ c m. tail m;
+          absent = λ c m. each-rest m;
         }
 
     kept : x < n → Fewer n xs → Fewer n (x ∷ xs)
@@ -87,13 +59,13 @@ fewer n (apart {x = x} {xs = xs} a d) b =
           distinct = apart (r .absent x a) (r .distinct);
           below = one l (r .below);
           count = suc-le-suc (r .count);
-          absent = λ c m. one (first m) (r .absent c (tail m));
+          absent = λ c m. one (each-first m) (r .absent c (each-rest m));
         }
 
 -- Pairwise distinct numbers below n are at most n.
 pub pigeonhole : (n : ℕ) {xs : List ℕ} → Distinct xs → Below n xs → length xs ≤ n
 pigeonhole zero alone b = zero-le
-pigeonhole zero (apart a d) b = absurd (not-suc-le-zero (first b))
+pigeonhole zero (apart a d) b = absurd (not-suc-le-zero (each-first b))
 pigeonhole (suc n) d b =
     let r : Fewer n _ = fewer n d b in
     omega (arith, pigeonhole n (r .distinct) (r .below))

@@ -1,6 +1,6 @@
 -- Rows: lists of numbers indexed by unit, and questions over all units below a count. Each recursion runs as a loop
 -- that counts up runs, so that one more turn of the loop is one more step of the definition.
-use Prim.Native.Nat.{ℕ, zero, suc, _+_, _-_, _^_, min}
+use Prim.Native.Nat.{ℕ, zero, suc, _+_, _-_, _/_, _%_, _^_, min}
 use mathlib.Core.Bool.{Bool, true, false, _&&_, _||_}
 use mathlib.Core.List.{List, [], _∷_, _++_, map}
 use lib.Dec.{eqb, ltb}
@@ -50,6 +50,10 @@ rising (suc n) p = rising n p ++ (if p n then n ∷ [] else [])
 abbrev pub bits : ℕ → (ℕ → Bool) → ℕ
 bits zero p = 0
 bits (suc n) p = bits n p + (if p n then 2 ^ n else 0)
+
+-- Whether unit k is in a set that is given as such a number.
+abbrev pub isIn : (set k : ℕ) → Bool
+isIn set k = eqb (set / 2 ^ k % 2) 1
 
 -- Whether two lists of numbers are the same.
 abbrev pub same : List ℕ → List ℕ → Bool

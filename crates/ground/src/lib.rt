@@ -28,3 +28,15 @@ pub const REMOVED: u32 = 255 * 65536;
 pub const COPIES: usize = UNITS * UNITS;
 
 pub const UNIT_WORDS: usize = 2 + 5 * UNITS + COPIES;
+
+// The messages that a queue holds, and the bytes of one queue, of the queues of one sender, and of all.
+pub const QUEUE_ROOM: usize = 4;
+
+pub const QUEUE_BYTES: usize = QUEUE_ROOM * MESSAGE_ROOM;
+
+pub const SENDER_BYTES: usize = UNITS * QUEUE_BYTES;
+
+pub const NETWORK_BYTES: usize = UNITS * SENDER_BYTES;
+
+// The numbers in the tables of all units.
+pub const NETWORK_WORDS: usize = UNITS * UNIT_WORDS;

@@ -10,36 +10,32 @@ use lib.ListN.{length, getD, set}
 use lib.Seq.{getD-set-same}
 use borrow.Author.Tests.{eq-eqb, ne-eqb}
 use Rattle.ground.specs.Choice.{if_then_else_}
-use Rattle.ground.specs.Limits.{highestCost}
 use Rattle.ground.specs.Rows.{at, zeros}
+use Rattle.ground.proofs.Each.{none, each-first, each-rest}
 use Rattle.tree.specs.Recompute.{copyOf}
 use Rattle.tree.specs.Tree.{distance, isTree}
 use Rattle.rules.specs.Event.{received, linkUp, newCost, linkDown, reaction}
 use Rattle.rules.specs.Message.{Message, holdsUpdate, holdsAcknowledgment, applied}
 use Rattle.rules.specs.Network.{Network, unitAt, queue, isUp, withQueue, happens}
 use Rattle.rules.specs.Unit.{Unit}
+use Rattle.loopfree.proofs.Accepted.{LegalCost}
 use Rattle.loopfree.proofs.Cases.{by-test}
 use Rattle.loopfree.proofs.Ends.{one-end, two-ends}
 use Rattle.loopfree.proofs.Events.{onReceived, onUp, onCost, onDown, touch-received, touch-up, touch-cost, touch-down}
 use Rattle.loopfree.proofs.Exchange.{oneIf, acksIn, heard, line-back, line-answered, line-heard, line-up, line-down}
 use Rattle.loopfree.proofs.Invariant.{LineOf, Holds, Any, Apart, apart-turned, holds-fewer, holds-queue}
 use Rattle.loopfree.proofs.Reaction.{Ready, Reacts, reacts}
-use Rattle.loopfree.proofs.Sent.{From, none, from-sender, from-rest}
-use Rattle.loopfree.proofs.Shape.{queue-here, queue-elsewhere}
+use Rattle.loopfree.proofs.Sent.{From}
+use Rattle.loopfree.proofs.Shape.{queue-here, queue-elsewhere, emptied, emptied-back, emptied-there}
 use Rattle.loopfree.proofs.Sound.{Home, Touch}
 use Rattle.loopfree.proofs.Trees.{zeros-furthest}
 
--- A legal cost: at least 1, at most the highest.
-pub record LegalCost (c : ℕ) : Type 0 where
-  pub least : 1 ≤ c
-  pub most : c ≤ highestCost
-
 -- An end is as its new cost says.
-end-set : (costs : List ℕ) (k c : ℕ) → k < length costs → not (eqb (at (set costs k c) k) 0) ≡ not (eqb c 0)
+pub end-set : (costs : List ℕ) (k c : ℕ) → k < length costs → not (eqb (at (set costs k c) k) 0) ≡ not (eqb c 0)
 end-set costs k c h = rw (getD-set-same costs k c 0 h)
 
 -- It is up where that is a legal cost.
-end-up : (costs : List ℕ) (k c : ℕ) → k < length costs → LegalCost c → not (eqb (at (set costs k c) k) 0) ≡ true
+pub end-up : (costs : List ℕ) (k c : ℕ) → k < length costs → LegalCost c → not (eqb (at (set costs k c) k) 0) ≡ true
 end-up costs k c h l = end-set costs k c h ∙ ap not (ne-eqb c 0 (omega arith))
 
 module _ (n a : ℕ) (u : Unit) (home : Home n a u) (b : ℕ) (hb : b < n) where
@@ -154,7 +150,7 @@ module _ (n : ℕ) (few : n ≤ 255) (net : Network) (holds : Holds n Any net) w
 
       -- Step A at b.
       touch : Touch ub (received m) a (onReceived ub m a)
-      touch = touch-received ub (homeB .sound) m a (from-sender from-a) (below n b ub homeB a ha) tree
+      touch = touch-received ub (homeB .sound) m a (each-first from-a) (below n b ub homeB a ha) tree
 
       -- The reaction at b.
       facts : Reacts n b ub (received m) (onReceived ub m a) (reaction ub (received m))
@@ -164,7 +160,7 @@ module _ (n : ℕ) (few : n ≤ 255) (net : Network) (holds : Holds n Any net) w
       answered : acksIn (getD (reaction ub (received m) .sent) a []) ≡ oneIf (holdsUpdate m)
       answered =
           facts .answers a ha
-          ∙ ap oneIf (ap (λ (t : Bool). holdsUpdate m && t) (eq-eqb a (m .sender) (sym (from-sender from-a)))
+          ∙ ap oneIf (ap (λ (t : Bool). holdsUpdate m && t) (eq-eqb a (m .sender) (sym (each-first from-a)))
           ∙ and-true (holdsUpdate m))
 
       -- The delivery keeps the invariant.
@@ -173,7 +169,7 @@ module _ (n : ℕ) (few : n ≤ 255) (net : Network) (holds : Holds n Any net) w
       keeps-delivery =
           let e : b ≢ a = λ q. d (sym q) in
           one-end n b a shorter hb ha e few
-          (holds-fewer (λ x y. apart-turned x y) (holds-queue n a b net ha hb (apart a b) rest (from-rest from-a)))
+          (holds-fewer (λ x y. apart-turned x y) (holds-queue n a b net ha hb (apart a b) rest (each-rest from-a)))
           (received m) (onReceived ub m a) touch
           (holds .ends b a hb ha e)
           (λ w. absurd (true≢false (sym w)))
@@ -224,24 +220,21 @@ ready-down n a b u w ha hb homeA homeB =
 
 -- The link between a and b goes down, its queues emptied first.
 pub keeps-down : (n : ℕ) → n ≤ 255 → (net : Network) → Holds n Any net → (a b : ℕ) → a < n → b < n → a ≢ b
-    → Holds n Any (happens (happens (withQueue (withQueue net a b []) b a []) a (linkDown b)) b (linkDown a))
+    → Holds n Any (happens (happens (emptied net a b) a (linkDown b)) b (linkDown a))
 keeps-down n few net holds a b ha hb d =
     let e : b ≢ a = λ q. d (sym q) in
     let half : Network = withQueue net a b [] in
-    let emptied : Network = withQueue half b a [] in
     let halved : Holds n (Apart a b) half = holds-queue n a b net ha hb (apart n few net holds a b) [] none in
-    let held : Holds n (Apart a b) emptied =
+    let held : Holds n (Apart a b) (emptied net a b) =
     holds-fewer (λ x y. apart-turned x y)
     (holds-queue n b a half hb ha (holds-fewer (λ x y. apart-turned x y) halved) [] none) in
-    let ua : Unit = unitAt emptied a in
-    let ub : Unit = unitAt emptied b in
+    let ua : Unit = unitAt (emptied net a b) a in
+    let ub : Unit = unitAt (emptied net a b) b in
     let homeA : Home n a ua = held .home a ha in
     let homeB : Home n b ub = held .home b hb in
-    let back : queue emptied b a ≡ [] = queue-here n half (halved .shape) b a [] hb ha in
-    let there : queue emptied a b ≡ [] =
-    queue-elsewhere n half (halved .shape) b a [] hb ha a b (λ p q. d p)
-    ∙ queue-here n net (holds .shape) a b [] ha hb in
-    two-ends n a b emptied ha hb d few held
+    let back : queue (emptied net a b) b a ≡ [] = emptied-back n net (holds .shape) a b ha hb in
+    let there : queue (emptied net a b) a b ≡ [] = emptied-there n net (holds .shape) a b ha hb d in
+    two-ends n a b (emptied net a b) ha hb d few held
     (linkDown b) (onDown ua b)
     (touch-down ua (homeA .sound) b (below n a ua homeA b hb) (not-me n a ua homeA b hb d))
     (linkDown a) (onDown ub a)

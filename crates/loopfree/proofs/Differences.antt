@@ -1,15 +1,20 @@
 -- An update carries a tree over: the differences of a new tree from an old one, applied to the old, give the new.
 use Prim.Native.Nat.{ℕ, zero, suc, _≤_, _<_}
 use native.Mathlib.Nat.{le-refl, not-suc-le-zero}
+use native.Mathlib.Numerals.{add-one}
 use native.Mathlib.Omega.{arith}
-use mathlib.Core.List.{List, append-nil}
-use mathlib.Core.Path.{_≡_, refl, sym, ap, _∙_}
+use mathlib.Core.Bool.{Bool, false, _||_}
+use mathlib.Core.List.{List, [], _∷_, _++_, append-nil}
+use mathlib.Core.Path.{_≡_, refl, sym, ap, ap₂, _∙_}
 use lib.Dec.{eqb}
-use lib.ListN.{length, set}
-use lib.Seq.{ext-getD, set-getD, getD-set-same, getD-set-other}
+use lib.ListN.{length, set, length-append, List·getD-append}
+use lib.Seq.{getD-at, ext-getD, set-getD, getD-set-same, getD-set-other}
 use borrow.Author.Tests.{eqb-true, eq-eqb, ne-eqb}
-use Rattle.ground.specs.Rows.{at}
+use Rattle.ground.specs.Rows.{at, some}
+use Rattle.ground.proofs.Rows.{some-ext}
+use Rattle.ground.proofs.Tests.{neither-of}
 use Rattle.tree.specs.Tree.{nothing}
+use Rattle.rules.specs.Event.{changesNothing}
 use Rattle.rules.specs.Message.{change, unitOf, bodyOf, removed, entryOf, bodyFor, differences, applied}
 use Rattle.rules.proofs.Applied.{withChange, applied-more, length-applied}
 use Rattle.loopfree.proofs.Cases.{by-test, by-equal}
@@ -21,14 +26,36 @@ body-back e c =
     (λ z. rw (eq-eqb e nothing z) (sym z, omega arith))
     (λ z. rw (ne-eqb e nothing z, ne-eqb e removed (omega arith)) (refl, omega arith))
 
--- Its change sets its unit's entry.
-set-change : (copy : List ℕ) (j e : ℕ) → e < removed → withChange copy (change j (bodyFor e)) ≡ set copy j e
-set-change copy j e c =
+-- Its change names its unit and the entry.
+change-back : (j e : ℕ) → e < removed
+    → (unitOf (change j (bodyFor e)) ≡ j) × (entryOf (bodyOf (change j (bodyFor e))) ≡ e)
+change-back j e c =
     let b : (entryOf (bodyFor e) ≡ e) × (bodyFor e < 16777216) = body-back e c in
     let s : bodyFor e < 16777216 = b .1 in
-    let u : unitOf (change j (bodyFor e)) ≡ j = omega arith in
     let w : bodyOf (change j (bodyFor e)) ≡ bodyFor e = omega arith in
-    rw (u, w, b .0)
+    (omega arith, rw w (b .0))
+
+-- So it sets its unit's entry.
+set-change : (copy : List ℕ) (j e : ℕ) → e < removed → withChange copy (change j (bodyFor e)) ≡ set copy j e
+set-change copy j e c = rw (change-back j e c .0, change-back j e c .1)
+
+-- Whether some change changes nothing, with one change more.
+nothing-more : (copy changes : List ℕ) (c : ℕ)
+    → changesNothing copy (changes ++ (c ∷ []))
+    ≡ changesNothing copy changes || eqb (at copy (unitOf c)) (entryOf (bodyOf c))
+unfolding changesNothing
+nothing-more copy changes c =
+    ap (λ (k : ℕ). some k (idle (changes ++ (c ∷ [])))) (length-append changes (c ∷ []) ∙ add-one (length changes))
+    ∙ ap₂ _||_
+    (some-ext (length changes) (idle (changes ++ (c ∷ []))) (idle changes)
+    (λ i l. ap names (List·getD-append changes (c ∷ []) 0 i l)))
+    (ap names (getD-at changes c [] 0 (length changes) refl))
+  where
+    names : ℕ → Bool
+    names d = eqb (at copy (unitOf d)) (entryOf (bodyOf d))
+
+    idle : List ℕ → ℕ → Bool
+    idle list i = names (at list i)
 
 -- The differences of the units below j set these units' entries and leave the others.
 record Carries (old new : List ℕ) (j : ℕ) : Type 0 where
@@ -72,3 +99,19 @@ module _ (n : ℕ) (old new : List ℕ) (fits : (x : ℕ) → x < n → at new x
   differences-carry w =
       let l : length (told-below n) ≡ n = length-applied old (differences n old new) ∙ o in
       ext-getD 0 (told-below n) new (l ∙ sym w) (λ x h. carries n (le-refl n) .told x (omega arith))
+
+  -- Each of the differences of the units below j changes something in the old tree.
+  changes-below : (j : ℕ) → j ≤ n → changesNothing old (differences j old new) ≡ false
+  unfolding differences changesNothing
+  changes-below zero h = refl
+  changes-below (suc j) h =
+      let rest : changesNothing old (differences j old new) ≡ false = changes-below j (omega arith) in
+      let back = change-back j (at new j) (fits j h) in
+      by-test (eqb (at old j) (at new j))
+      (λ e. rw (e, append-nil (differences j old new)) rest)
+      (λ e. rw (e, nothing-more old (differences j old new) (change j (bodyFor (at new j))), back .0, back .1)
+      (neither-of (changesNothing old (differences j old new)) (eqb (at old j) (at new j)) rest e))
+
+  -- Each of the differences of all units does.
+  pub differences-change : changesNothing old (differences n old new) ≡ false
+  differences-change = changes-below n (le-refl n)

@@ -57,7 +57,7 @@ module _ (n a b : ℕ) (net : Network) (ha : a < n) (hb : b < n) (d : a ≢ b) (
     -- Unit b in between.
     unit-b : unitAt one b ≡ unitAt net b
     unfolding happens
-    unit-b = unit-elsewhere n net (holds .shape) a ra ha b (λ q. d (sym q))
+    unit-b = unit-elsewhere net a ra b (λ q. d (sym q))
 
     -- The queue from a to b in between.
     queue-ab : queue one a b ≡ queue net a b ++ getD (ra .sent) b []
@@ -67,7 +67,7 @@ module _ (n a b : ℕ) (net : Network) (ha : a < n) (hb : b < n) (d : a ≢ b) (
     -- The queue from b to a in between.
     queue-ba : queue one b a ≡ queue net b a
     unfolding happens
-    queue-ba = queue-of-other n net (holds .shape) a ra ha b a (λ q. d (sym q))
+    queue-ba = queue-of-other net a ra b a (λ q. d (sym q))
 
     -- What holds in between.
     between : Holds n (Apart b a) one

@@ -11,9 +11,10 @@ use mathlib.Core.Logic.{_⊎_, inl, inr}
 use mathlib.Core.Path.{_≡_, refl, sym, ap, _∙_}
 use Rattle.ground.specs.Choice.{if_then_else_}
 use Rattle.ground.specs.Rows.{at, zeros}
+use Rattle.ground.proofs.Each.{Each, none, one, each-rest, each-append}
 use Rattle.ground.proofs.Tests.{if-true, if-false}
 use Rattle.tree.specs.Tree.{distance}
-use Rattle.rules.specs.Message.{Message, holdsUpdate, holdsAcknowledgment, applied}
+use Rattle.rules.specs.Message.{Message, holdsUpdate, holdsAcknowledgment, differences, applied}
 use Rattle.loopfree.proofs.Cases.{by-test}
 
 -- 1 where a test holds, else 0.
@@ -21,7 +22,7 @@ abbrev pub oneIf : Bool → ℕ
 oneIf b = if b then 1 else 0
 
 -- It is 1 for a test that holds.
-one-of : (b : Bool) → b ≡ true → oneIf b ≡ 1
+pub one-of : (b : Bool) → b ≡ true → oneIf b ≡ 1
 one-of b e = if-true b 1 0 e
 
 -- It is 0 for a test that does not.
@@ -54,16 +55,22 @@ unfoldable pub arrived : (copy : List ℕ) → List Message → List ℕ
 arrived copy [] = copy
 arrived copy (m ∷ rest) = arrived (heard copy m) rest
 
+-- A message's changes: the given ones where it holds an update, else none.
+abbrev pub Tells : (changes : List ℕ) → Message → Type 0
+Tells changes m = m .changes ≡ (if holdsUpdate m then changes else [])
+
 -- The direction from unit i to another unit. Of i: whether its end is up, 1 or 0 for whether it waits, its tree and
 -- feasible distances. Of the other: its copy of i's tree. `there` are the messages queued to it, `back` those queued to
 -- i. An end that is up: once all that is queued there has arrived, the copy is i's tree. An end that is down: no wait, so
--- no update there and no acknowledgment back, and an empty copy. Always: feasible distances at most the copy's distances.
+-- no update there and no acknowledgment back, and an empty copy. Always: feasible distances at most the copy's distances,
+-- and an update that is queued there holds the differences of i's tree from the copy.
 pub record Line (n i : ℕ) (up : Bool) (waits : ℕ) (tree feasible copy : List ℕ) (there back : List Message) : Type 0 where
   pub balance : updatesIn there + acksIn back ≡ waits
   pub single : waits ≤ 1
   pub arrives : up ≡ true → arrived copy there ≡ tree
   pub off : up ≡ false → (waits ≡ 0) × (copy ≡ zeros n)
   pub lower : (j : ℕ) → at feasible j ≤ distance n i copy j
+  pub told : Each (Tells (differences n copy tree)) there
 
 -- What arrives by some messages, then by others.
 arrived-append : (copy : List ℕ) (xs ys : List Message) → arrived copy (xs ++ ys) ≡ arrived (arrived copy xs) ys
@@ -80,6 +87,15 @@ arrived-none copy (m ∷ xs) e =
     (λ h. absurd (omega (arith, one-of (holdsUpdate m) h)))
     (λ h. ap (λ (c : List ℕ). arrived c xs) (if-false (holdsUpdate m) (applied copy (m .changes)) copy h)
     ∙ arrived-none copy xs (omega (arith, none-of (holdsUpdate m) h)))
+
+-- Messages that hold no update tell whatever changes.
+retold : (old new : List ℕ) {xs : List Message} → updatesIn xs ≡ 0 → Each (Tells old) xs → Each (Tells new) xs
+unfolding countIn
+retold old new e none = none
+retold old new e (one {x = m} p ps) =
+    by-test (holdsUpdate m)
+    (λ h. absurd (omega (arith, one-of (holdsUpdate m) h)))
+    (λ h. one (rw h (rw h at p)) (retold old new (omega (arith, none-of (holdsUpdate m) h)) ps))
 
 module _ {n i : ℕ} {up : Bool} {waits : ℕ} {tree feasible copy : List ℕ} {there back : List Message} where
   -- Where i does not wait, the copy is i's tree, or the empty one and the link is down.
@@ -100,6 +116,7 @@ module _ {n i : ℕ} {up : Bool} {waits : ℕ} {tree feasible copy : List ℕ} {
         arrives = l .arrives;
         off = l .off;
         lower = l .lower;
+        told = l .told;
       }
 
   -- The first message that i gets back is received: its acknowledgment clears the wait.
@@ -117,6 +134,7 @@ module _ {n i : ℕ} {up : Bool} {waits : ℕ} {tree feasible copy : List ℕ} {
         arrives = l .arrives;
         off = λ d. (let z : waits ≡ 0 = l .off d .0 in omega arith, l .off d .1);
         lower = l .lower;
+        told = l .told;
       }
 
   -- The first message that i sent is received: its update changes the copy, and is acknowledged.
@@ -133,6 +151,10 @@ module _ {n i : ℕ} {up : Bool} {waits : ℕ} {tree feasible copy : List ℕ} {
             let z : waits ≡ 0 = l .off d .0 in
             (z, quiet (omega arith) ∙ l .off d .1);
         lower = λ j. by-test (holdsUpdate m) (heard-lower j) (λ h. rw h (l .lower j));
+        told = by-test (holdsUpdate m)
+            (λ h. let one : oneIf (holdsUpdate m) ≡ 1 = one-of (holdsUpdate m) h in
+            retold (differences n copy tree) (differences n (heard copy m) tree) (omega arith) (each-rest (l .told)))
+            (λ h. rw h (each-rest (l .told)));
       }
     where
       quiet : oneIf (holdsUpdate m) ≡ 0 → heard copy m ≡ copy
@@ -159,15 +181,17 @@ module _ {n i : ℕ} {up : Bool} {waits : ℕ} {tree feasible copy : List ℕ} {
         arrives = λ u. arrived-none copy there (omega (arith, l .off d .0)) ∙ l .off d .1;
         off = λ u. absurd (true≢false u);
         lower = l .lower;
+        told = retold (differences n copy tree) (differences n copy (zeros n)) (omega (arith, l .off d .0)) (l .told);
       }
 
   -- An update is sent to a neighbour that i does not wait for.
-  pub line-sent : (m : Message) (new lowered : List ℕ) → holdsUpdate m ≡ true → applied tree (m .changes) ≡ new
-      → ((j : ℕ) → at lowered j ≤ distance n i copy j) → up ≡ true → waits ≡ 0
+  pub line-sent : (m : Message) (new lowered : List ℕ) → holdsUpdate m ≡ true → m .changes ≡ differences n tree new
+      → applied tree (m .changes) ≡ new → ((j : ℕ) → at lowered j ≤ distance n i copy j) → up ≡ true → waits ≡ 0
       → Line n i up waits tree feasible copy there back
       → Line n i up 1 new lowered copy (there ++ (m ∷ [])) back
   unfolding countIn arrived
-  line-sent m new lowered h e low u w l =
+  line-sent m new lowered h c e low u w l =
+      let settled : copy ≡ tree = sym (arrived-none copy there (omega arith)) ∙ l .arrives u in
       record {
         balance = omega (arith, count-append holdsUpdate there (m ∷ []), one-of (holdsUpdate m) h);
         single = le-refl 1;
@@ -178,20 +202,28 @@ module _ {n i : ℕ} {up : Bool} {waits : ℕ} {tree feasible copy : List ℕ} {
             ∙ e;
         off = λ d. absurd (true≢false (sym u ∙ d));
         lower = low;
+        told = each-append (retold (differences n copy tree) (differences n copy new) (omega arith) (l .told))
+            (one (rw (h, settled) c) none);
       }
 
   -- No update is sent, and to a neighbour the tree is the same.
-  pub line-kept : (sent : List Message) (new lowered : List ℕ) → updatesIn sent ≡ 0 → (up ≡ true → tree ≡ new)
+  pub line-kept : (sent : List Message) (new lowered : List ℕ) → updatesIn sent ≡ 0 → Each (Tells []) sent
+      → (up ≡ true → tree ≡ new)
       → ((j : ℕ) → at lowered j ≤ distance n i copy j)
       → Line n i up waits tree feasible copy there back
       → Line n i up waits new lowered copy (there ++ sent) back
-  line-kept sent new lowered e t low l =
+  line-kept sent new lowered e s t low l =
       record {
         balance = omega (arith, count-append holdsUpdate there sent);
         single = l .single;
         arrives = λ u. arrived-append copy there sent ∙ arrived-none (arrived copy there) sent e ∙ l .arrives u ∙ t u;
         off = l .off;
         lower = low;
+        told = each-append
+            (by-test up
+            (λ u. rw (t u) at (l .told))
+            (λ d. retold (differences n copy tree) (differences n copy new) (omega (arith, l .off d .0)) (l .told)))
+            (retold [] (differences n copy new) e s);
       }
 
 -- A link that is down at i's end, its queues empty.
@@ -205,4 +237,5 @@ line-down n i tree feasible low =
       arrives = λ u. absurd (true≢false (sym u));
       off = λ d. (refl, refl);
       lower = low;
+      told = none;
     }

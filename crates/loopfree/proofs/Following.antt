@@ -10,7 +10,8 @@ use lib.Dec.{eqb, ltb}
 use lib.ListN.{length, List·getD-eq-default}
 use borrow.Author.Tests.{ltb-true, eqb-false, not-true}
 use Rattle.ground.specs.Rows.{at}
-use Rattle.ground.proofs.Pigeonhole.{Each, none, one, Distinct, alone, apart, Below, each-map, pigeonhole}
+use Rattle.ground.proofs.Each.{Each, none, one, each-map}
+use Rattle.ground.proofs.Pigeonhole.{Distinct, alone, apart, Below, pigeonhole}
 use Rattle.ground.proofs.Tests.{both, less-or-not}
 use Rattle.tree.specs.Recompute.{copyOf}
 use Rattle.tree.specs.Tree.{distance}

@@ -9,6 +9,7 @@ use mathlib.Core.Path.{_≡_, sym, ap, _∙_}
 use lib.Dec.{eqb}
 use lib.ListN.{getD}
 use Rattle.ground.specs.Rows.{at}
+use Rattle.ground.proofs.Each.{each-append}
 use Rattle.tree.specs.Recompute.{copyOf}
 use Rattle.rules.specs.Event.{Event, Reaction, reaction, isNew}
 use Rattle.rules.specs.Message.{Message}
@@ -17,7 +18,7 @@ use Rattle.rules.specs.Unit.{Unit, isNeighbour}
 use Rattle.loopfree.proofs.Cases.{by-equal}
 use Rattle.loopfree.proofs.Exchange.{Line, oneIf, line-back}
 use Rattle.loopfree.proofs.Reaction.{Ready, Reacts, reacts}
-use Rattle.loopfree.proofs.Sent.{From, from-append}
+use Rattle.loopfree.proofs.Sent.{From}
 use Rattle.loopfree.proofs.Shape.{Shape, queue-here, queue-elsewhere, units-stay, shape-queue}
 use Rattle.loopfree.proofs.Shape.{unit-here, unit-elsewhere, queue-from, queue-of-other, shape-reacted}
 use Rattle.loopfree.proofs.Sound.{Links, Home, Touch}
@@ -64,7 +65,7 @@ holds-fewer f h =
     }
 
 -- Three cases: from a to b, from b to a, or apart from these.
-by-direction : (P : ℕ → ℕ → Type 0) (a b : ℕ) → P a b → P b a → (x y : ℕ) → x ≢ y → (Apart a b x y → P x y) → P x y
+pub by-direction : (P : ℕ → ℕ → Type 0) (a b : ℕ) → P a b → P b a → (x y : ℕ) → x ≢ y → (Apart a b x y → P x y) → P x y
 by-direction P a b there back x y d rest =
     by-equal x a
     (λ xa. by-equal y b
@@ -139,7 +140,7 @@ module _ (n a b : ℕ) (net : Network) (ha : a < n) (hb : b < n) (holds : Holds 
 
     -- Another unit.
     other : (x : ℕ) → x ≢ a → unitAt net′ x ≡ unitAt net x
-    other x d = unit-elsewhere n net (holds .shape) a r ha x d
+    other x d = unit-elsewhere net a r x d
 
     -- The queues out of the unit that reacted.
     from : (y : ℕ) → y < n → queue net′ a y ≡ queue net a y ++ getD (r .sent) y []
@@ -147,7 +148,7 @@ module _ (n a b : ℕ) (net : Network) (ha : a < n) (hb : b < n) (holds : Holds 
 
     -- The queues out of another.
     others : (x y : ℕ) → x ≢ a → queue net′ x y ≡ queue net x y
-    others x y d = queue-of-other n net (holds .shape) a r ha x y d
+    others x y d = queue-of-other net a r x y d
 
     -- A direction out of a, from what it is after step A.
     pub line-out : (y : ℕ) → y < n → y ≢ a → (isNew e y ≡ true → at (t .awaited) y ≡ 0)
@@ -185,7 +186,7 @@ module _ (n a b : ℕ) (net : Network) (ha : a < n) (hb : b < n) (holds : Holds 
           shape = shape-reacted n net (holds .shape) a r ha;
           home = λ i h. by-equal i a (λ q. rw (q, here) (facts .home)) (λ q. rw (other i q) (holds .home i h));
           signed = λ x y hx hy. by-equal x a
-              (λ q. rw (q, from y hy) (from-append (holds .signed a y ha hy) (facts .signs y hy)))
+              (λ q. rw (q, from y hy) (each-append (holds .signed a y ha hy) (facts .signs y hy)))
               (λ q. rw (others x y q) (holds .signed x y hx hy));
           ends = λ x y hx hy d.
               up-same x y (d .1) ∙ holds .ends x y hx hy d ∙ sym (up-same y x (λ p q. d .2 q p));

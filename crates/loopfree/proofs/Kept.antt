@@ -1,90 +1,45 @@
 -- The invariant holds of the fresh network and is kept by every step, refused or not; so it holds of every network that
 -- calls reach.
-use Prim.Native.Nat.{ℕ, suc, _-_, _≤_, _<_}
+use Prim.Native.Nat.{ℕ, _-_, _≤_, _<_}
 use native.Mathlib.Omega.{arith}
-use mathlib.Core.Bool.{Bool, true, false, not, _&&_, _||_, true≢false}
+use mathlib.Core.Bool.{true, false, true≢false}
 use mathlib.Core.List.{List, [], _∷_}
-use mathlib.Core.Logic.{_≢_}
 use mathlib.Core.Path.{_≡_, refl, sym, ap, _∙_}
-use lib.Dec.{eqb, ltb, leb}
+use lib.Dec.{eqb, leb}
 use lib.ListN.{length, getD, drop, length-replicate}
-use borrow.Author.Tests.{ltb-true, leb-true, eqb-true, eqb-false, eq-eqb, ne-eqb, not-false}
+use borrow.Author.Tests.{leb-true, eqb-true, eq-eqb, ne-eqb}
 use Rattle.ground.specs.Choice.{if_then_else_}
-use Rattle.ground.specs.Limits.{far, highestCost, unitLimit, legalCount, legalCost}
-use Rattle.ground.specs.Refusal.{accepted, _gives_, _otherwise_}
+use Rattle.ground.specs.Limits.{far, unitLimit, legalCount}
+use Rattle.ground.specs.Refusal.{accepted}
 use Rattle.ground.specs.Rows.{at, tab, zeros}
+use Rattle.ground.proofs.Each.{none}
 use Rattle.ground.proofs.Lists.{at-zeros}
-use Rattle.ground.proofs.Refusal.{gives-none, otherwise-none}
 use Rattle.ground.proofs.Rows.{tab-at, length-tab}
-use Rattle.ground.proofs.Tests.{both, neither}
+use Rattle.ground.proofs.Tests.{both}
 use Rattle.tree.specs.Recompute.{copyOf}
-use Rattle.tree.specs.Tree.{distance, isTree}
+use Rattle.tree.specs.Tree.{distance}
 use Rattle.tree.proofs.Rooted.{zeros-tree}
 use Rattle.tree.proofs.Tree.{distance-none}
-use Rattle.rules.specs.Event.{received, messageRefusal, changesNothing}
-use Rattle.rules.specs.Message.{Message, holdsAcknowledgment, applied}
-use Rattle.rules.specs.Network.{Network, Call, up, cost, down, deliver, unitAt, queue, isUp}
-use Rattle.rules.specs.Network.{fresh, nextMessage, withQueue, happens, outcome, badEnds, refusalOf, stepTo, step}
-use Rattle.rules.specs.Unit.{Unit, isNeighbour, awaits, freshUnit}
+use Rattle.rules.specs.Event.{received, messageRefusal}
+use Rattle.rules.specs.Message.{Message}
+use Rattle.rules.specs.Network.{Network, Call, up, cost, down, deliver, unitAt, queue}
+use Rattle.rules.specs.Network.{fresh, nextMessage, withQueue, happens, outcome, refusalOf, stepTo, step}
+use Rattle.rules.specs.Unit.{isNeighbour, freshUnit}
 use Rattle.loopfree.specs.Reached.{run, reached}
-use Rattle.loopfree.proofs.Calls.{LegalCost, keeps-cost, keeps-up, keeps-down, keeps-delivery}
+use Rattle.loopfree.proofs.Accepted.{Ends, AcceptedUp, AcceptedCost, AcceptedDelivery, message-tree}
+use Rattle.loopfree.proofs.Accepted.{accepted-up, accepted-cost, accepted-down, accepted-delivery}
+use Rattle.loopfree.proofs.Calls.{keeps-cost, keeps-up, keeps-down, keeps-delivery}
 use Rattle.loopfree.proofs.Cases.{by-test, by-equal}
 use Rattle.loopfree.proofs.Exchange.{line-down}
 use Rattle.loopfree.proofs.Feasible.{tab-le}
 use Rattle.loopfree.proofs.Invariant.{Direction, Holds, Any}
-use Rattle.loopfree.proofs.Sent.{none}
 use Rattle.loopfree.proofs.Sound.{Home}
 use Rattle.loopfree.proofs.Shape.{Shape}
 
--- Where no refusal of a list is given, the first, whose number is one above k, does not apply, and no other is given.
-passed : (condition : Bool) (k rest : ℕ) → condition gives suc k otherwise rest ≡ accepted
-    → (condition ≡ false) × (rest ≡ accepted)
-passed condition k rest e =
-    let p : (condition gives suc k ≡ accepted) × (rest ≡ accepted) = otherwise-none (condition gives suc k) rest e in
-    (gives-none condition k (p .0), p .1)
-
--- Two different units.
-record Ends (n a b : ℕ) : Type 0 where
-  first : a < n
-  second : b < n
-  differ : a ≢ b
-
--- Ends that are not refused with 3.
-good-ends : (n a b : ℕ) → badEnds n a b ≡ false → Ends n a b
-unfolding badEnds
-good-ends n a b e =
-    let p : (not (ltb a n) || not (ltb b n) ≡ false) × (eqb a b ≡ false) =
-    neither (not (ltb a n) || not (ltb b n)) (eqb a b) e in
-    let q : (not (ltb a n) ≡ false) × (not (ltb b n) ≡ false) = neither (not (ltb a n)) (not (ltb b n)) (p .0) in
-    record {
-      first = ltb-true a n (not-false (ltb a n) (q .0));
-      second = ltb-true b n (not-false (ltb b n) (q .1));
-      differ = eqb-false a b (p .1);
-    }
-
--- A legal cost is at least 1 and at most the highest.
-legal-cost : (c : ℕ) → legalCost c ≡ true → LegalCost c
-legal-cost c e =
-    let p : (leb 1 c ≡ true) × (leb c highestCost ≡ true) = both (leb 1 c) (leb c highestCost) e in
-    record { least = leb-true 1 c (p .0); most = leb-true c highestCost (p .1) }
-
--- A message that is not refused leaves a copy that is a tree.
-message-tree : (u : Unit) (m : Message) → messageRefusal u m ≡ accepted
-    → isTree (u .count) (m .sender) (applied (copyOf (u .copies) (m .sender)) (m .changes)) ≡ true
-unfolding messageRefusal
-message-tree u m e =
-    not-false (isTree (u .count) (m .sender) (applied (copyOf (u .copies) (m .sender)) (m .changes)))
-    (gives-none _ 11
-    (passed (changesNothing (copyOf (u .copies) (m .sender)) (m .changes)) 10 _
-    (passed (holdsAcknowledgment m && not (awaits u (m .sender))) 9 _ e .1) .1))
-
 module _ (n : ℕ) (few : n ≤ 255) (net : Network) (holds : Holds n Any net) where
-  -- The ends of a call that passed the first refusal.
-  two-units : (a b rest : ℕ) → badEnds (net .count) a b gives 3 otherwise rest ≡ accepted
-      → Ends n a b × (rest ≡ accepted)
-  two-units a b rest e =
-      let p : (badEnds (net .count) a b ≡ false) × (rest ≡ accepted) = passed (badEnds (net .count) a b) 2 rest e in
-      (good-ends n a b (rw (holds .shape .counted) at (p .0)), p .1)
+  -- Different units below the network's count are so below n.
+  ends-below : (a b : ℕ) → Ends (net .count) a b → Ends n a b
+  ends-below a b t = rw (holds .shape .counted) at t
 
   -- A delivery from a queue that is not empty takes its first message.
   keeps-first : (a b : ℕ) → Ends n a b → (messages : List Message) → queue net a b ≡ messages
@@ -96,30 +51,21 @@ module _ (n : ℕ) (few : n ≤ 255) (net : Network) (holds : Holds n Any net) w
 
   -- An accepted call keeps the invariant.
   keeps-call : (call : Call) (result : Network) → refusalOf net call result ≡ accepted → Holds n Any (outcome net call)
-  unfolding refusalOf outcome
+  unfolding outcome
   keeps-call (up a b ca cb) result e =
-      let t : Ends n a b × _ = two-units a b _ e in
-      let l : (not (legalCost ca && legalCost cb) ≡ false) × _ =
-      passed (not (legalCost ca && legalCost cb)) 3 _ (t .1) in
-      let c : (legalCost ca ≡ true) × (legalCost cb ≡ true) =
-      both (legalCost ca) (legalCost cb) (not-false (legalCost ca && legalCost cb) (l .0)) in
-      keeps-up n few net holds a b (t .0 .first) (t .0 .second) (t .0 .differ) ca cb
-      (legal-cost ca (c .0)) (legal-cost cb (c .1)) (passed (isUp net a b) 4 _ (l .1) .0)
+      let known : AcceptedUp net a b result ca cb = accepted-up net a b result ca cb e in
+      let t : Ends n a b = ends-below a b (known .ends) in
+      keeps-up n few net holds a b (t .first) (t .second) (t .differ) ca cb (known .cost-a) (known .cost-b) (known .closed)
   keeps-call (cost a b c) result e =
-      let t : Ends n a b × _ = two-units a b _ e in
-      let l : (not (legalCost c) ≡ false) × _ = passed (not (legalCost c)) 3 _ (t .1) in
-      keeps-cost n few net holds a b (t .0 .first) (t .0 .second) (t .0 .differ) c
-      (legal-cost c (not-false (legalCost c) (l .0)))
-      (not-false (isUp net a b) (passed (not (isUp net a b)) 5 _ (l .1) .0))
+      let known : AcceptedCost net a b result c = accepted-cost net a b result c e in
+      let t : Ends n a b = ends-below a b (known .ends) in
+      keeps-cost n few net holds a b (t .first) (t .second) (t .differ) c (known .cost) (known .opened)
   keeps-call (down a b) result e =
-      let t : Ends n a b × _ = two-units a b _ e in
-      keeps-down n few net holds a b (t .0 .first) (t .0 .second) (t .0 .differ)
+      let t : Ends n a b = ends-below a b (accepted-down net a b result e .ends) in
+      keeps-down n few net holds a b (t .first) (t .second) (t .differ)
   keeps-call (deliver a b) result e =
-      let t : Ends n a b × _ = two-units a b _ e in
-      let l : (not (isUp net a b) ≡ false) × _ = passed (not (isUp net a b)) 5 _ (t .1) in
-      let q : (eqb (length (queue net a b)) 0 ≡ false) × _ = passed (eqb (length (queue net a b)) 0) 7 _ (l .1) in
-      keeps-first a b (t .0) (queue net a b) refl (q .0)
-      (otherwise-none (messageRefusal (unitAt net b) (nextMessage (queue net a b))) _ (q .1) .0)
+      let known : AcceptedDelivery net a b result = accepted-delivery net a b result e in
+      keeps-first a b (ends-below a b (known .ends)) (queue net a b) refl (known .some) (known .message)
 
   -- A step keeps the invariant: a refused one changes nothing.
   keeps-step : (call : Call) → Holds n Any (step net call)
@@ -136,7 +82,7 @@ keeps-run n few net holds [] = holds
 keeps-run n few net holds (call ∷ rest) = keeps-run n few (step net call) (keeps-step n few net holds call) rest
 
 -- The fresh network's lists.
-fresh-shape : (n : ℕ) → Shape n (fresh n)
+pub fresh-shape : (n : ℕ) → Shape n (fresh n)
 unfolding fresh
 fresh-shape n =
     record {
@@ -147,19 +93,19 @@ fresh-shape n =
     }
 
 -- Its units.
-fresh-unit : (n i : ℕ) → i < n → unitAt (fresh n) i ≡ freshUnit n i
+pub fresh-unit : (n i : ℕ) → i < n → unitAt (fresh n) i ≡ freshUnit n i
 unfolding fresh
 fresh-unit n i h = tab-at n (freshUnit n) i (freshUnit 0 0) h
 
 -- Its queues.
-fresh-queue : (n x y : ℕ) → x < n → y < n → queue (fresh n) x y ≡ []
+pub fresh-queue : (n x y : ℕ) → x < n → y < n → queue (fresh n) x y ≡ []
 unfolding fresh
 fresh-queue n x y hx hy =
     ap (λ (row : List (List Message)). getD row y []) (tab-at n (λ a. tab n (λ b. [])) x [] hx)
     ∙ tab-at n (λ b. []) y [] hy
 
 -- A fresh unit's copies.
-fresh-copy : (n i k : ℕ) → k < n → copyOf (freshUnit n i .copies) k ≡ zeros n
+pub fresh-copy : (n i k : ℕ) → k < n → copyOf (freshUnit n i .copies) k ≡ zeros n
 unfolding freshUnit
 fresh-copy n i k h = tab-at n (λ x. zeros n) k [] h
 
@@ -194,7 +140,7 @@ fresh-home n i =
     }
 
 -- A fresh unit has no neighbour.
-fresh-down : (n i k : ℕ) → isNeighbour (freshUnit n i) k ≡ false
+pub fresh-down : (n i k : ℕ) → isNeighbour (freshUnit n i) k ≡ false
 unfolding freshUnit
 fresh-down n i k = rw (at-zeros n k)
 

@@ -1,4 +1,5 @@
 -- That MPDA never routes in a circle.
+pub mod Accepted
 pub mod Calls
 pub mod Cases
 pub mod Differences
@@ -16,3 +17,4 @@ pub mod Shape
 pub mod Sound
 pub mod Tracing
 pub mod Trees
+pub mod Unrefused

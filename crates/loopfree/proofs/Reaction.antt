@@ -18,15 +18,15 @@ use Rattle.tree.proofs.Recomputed.{recomputed-tree}
 use Rattle.tree.proofs.Rooted.{tree-length}
 use Rattle.rules.specs.Event.{Event, Reaction, newTree, newFeasible, changed, isNew, isAcknowledged, isSentUpdate}
 use Rattle.rules.specs.Event.{differencesFor, newAwaited, messageTo, reactionWith, reaction}
-use Rattle.rules.specs.Message.{Message, applied}
+use Rattle.rules.specs.Message.{Message, differences, applied}
 use Rattle.rules.specs.Unit.{Unit, isNeighbour, awaits, isActive}
 use Rattle.rules.proofs.TreeEntries.{tree-short}
 use Rattle.loopfree.proofs.Cases.{by-test}
 use Rattle.loopfree.proofs.Differences.{differences-carry}
 use Rattle.loopfree.proofs.Exchange.{Line, oneIf, acksIn, line-sent, line-kept}
 use Rattle.loopfree.proofs.Feasible.{passive-waits, tree-kept, tree-new, feasible-own, feasible-copied}
-use Rattle.loopfree.proofs.Sent.{From, updateTo, answerTo, update-holds, answer-holds, message-is, message-acks}
-use Rattle.loopfree.proofs.Sent.{message-from, sends-why, keeps-why, awaited-is, sent-at}
+use Rattle.loopfree.proofs.Sent.{From, updateTo, answerTo, update-holds, answer-holds, answer-tells, message-is}
+use Rattle.loopfree.proofs.Sent.{message-acks, message-from, sends-why, keeps-why, awaited-is, sent-at}
 use Rattle.loopfree.proofs.Sound.{Links, having, Sound, Home, Touch}
 
 -- What k should know when the event begins: the unit's tree, or the empty one where k is new.
@@ -109,6 +109,11 @@ module _ (u : Unit) (e : Event) (b : ℕ) (t : Links) (here : u .me < u .count) 
     known-which : (knownBy u e k ≡ u .tree) ⊎ (knownBy u e k ≡ zeros (u .count))
     known-which = by-test (isNew e k) (λ a. inr (rw a)) (λ a. inl (rw a))
 
+    -- An update holds the differences from that.
+    update-tells : differencesFor u e tree′ k ≡ differences (u .count) (knownBy u e k) tree′
+    unfolding differencesFor
+    update-tells = refl
+
     -- An update brings k from what it should have known to the new tree.
     update-carries : applied (knownBy u e k) (differencesFor u e tree′ k) ≡ tree′
     unfolding differencesFor
@@ -128,12 +133,12 @@ module _ (u : Unit) (e : Event) (b : ℕ) (t : Links) (here : u .me < u .count) 
         sends-why u e afterA tree′ k s in
         rw (awaited-is u e afterA tree′ k below, message-is u e afterA tree′ k, s)
         (line-sent (updateTo u e afterA tree′ k) tree′ (newFeasible u afterA tree′)
-        (update-holds u e afterA tree′ k) update-carries
+        (update-holds u e afterA tree′ k) update-tells update-carries
         (feasible-copied u afterA k below refl known-which l) (why .0)
         (⊎-elim (λ c. passive-waits afterA (changed-passive c) k below) new (why .1)) l))
         (λ s. rw (awaited-is u e afterA tree′ k below, message-is u e afterA tree′ k, s)
         (line-kept (answerTo u e afterA tree′ k) tree′ (newFeasible u afterA tree′)
-        (answer-holds u e afterA tree′ k)
+        (answer-holds u e afterA tree′ k) (answer-tells u e afterA tree′ k)
         (λ up. let why : (u .tree ≡ tree′) × (isNew e k ≡ false) = keeps-why u e afterA tree′ k s up in
         if-false (isNew e k) (zeros (u .count)) (u .tree) (why .1) ∙ why .0)
         (feasible-copied u afterA k below refl known-which l) l))

@@ -2,38 +2,25 @@
 -- where one is owed, who is sent an update, and who is awaited after that.
 use Prim.Native.Nat.{ℕ, _+_, _<_}
 use mathlib.Core.Bool.{Bool, true, false, _||_}
-use mathlib.Core.List.{List, [], _∷_, _++_}
+use mathlib.Core.List.{List, [], _∷_}
 use mathlib.Core.Logic.{_⊎_}
 use mathlib.Core.Path.{_≡_, refl}
 use lib.ListN.{getD}
 use borrow.Author.Tests.{not-false}
 use Rattle.ground.specs.Choice.{if_then_else_}
 use Rattle.ground.specs.Rows.{at, same}
+use Rattle.ground.proofs.Each.{Each, none, one}
 use Rattle.ground.proofs.Rows.{tab-at, same-eq}
 use Rattle.ground.proofs.Tests.{both, either, neither}
 use Rattle.rules.specs.Event.{Event, changed, isNew, isAcknowledged, isSentUpdate, differencesFor, newAwaited, messageTo, reactionWith}
 use Rattle.rules.specs.Message.{Message, acknowledgment, update, holdsUpdate}
 use Rattle.rules.specs.Unit.{Unit, isNeighbour}
 use Rattle.loopfree.proofs.Cases.{by-test}
-use Rattle.loopfree.proofs.Exchange.{oneIf, countIn, updatesIn, acksIn}
+use Rattle.loopfree.proofs.Exchange.{Tells, oneIf, countIn, updatesIn, acksIn}
 
 -- Every message of a list is from unit a.
-pub data From (a : ℕ) : List Message → Type 0 where
-  none : From a []
-  one : {m : Message} {rest : List Message} → m .sender ≡ a → From a rest → From a (m ∷ rest)
-
--- Messages from a, one after the other.
-pub from-append : {a : ℕ} {xs ys : List Message} → From a xs → From a ys → From a (xs ++ ys)
-from-append none q = q
-from-append (one e p) q = one e (from-append p q)
-
--- The first of some messages from a.
-pub from-sender : {a : ℕ} {m : Message} {rest : List Message} → From a (m ∷ rest) → m .sender ≡ a
-from-sender (one e p) = e
-
--- The others.
-pub from-rest : {a : ℕ} {m : Message} {rest : List Message} → From a (m ∷ rest) → From a rest
-from-rest (one e p) = p
+abbrev pub From : (a : ℕ) → List Message → Type 0
+From a messages = Each (λ m. m .sender ≡ a) messages
 
 module _ (u : Unit) (e : Event) (v : Unit) (tree : List ℕ) (k : ℕ) where
   -- Whether k is sent an update.
@@ -66,6 +53,10 @@ module _ (u : Unit) (e : Event) (v : Unit) (tree : List ℕ) (k : ℕ) where
   pub answer-holds : updatesIn answerTo ≡ 0
   unfolding countIn
   answer-holds = by-test (isAcknowledged e k) (λ a. rw a) (λ a. rw a)
+
+  -- It holds no changes.
+  pub answer-tells : Each (Tells []) answerTo
+  answer-tells = by-test (isAcknowledged e k) (λ a. rw a (one refl none)) (λ a. rw a none)
 
   -- What k is sent holds an acknowledgment exactly where the event calls for one.
   pub message-acks : acksIn (messageTo u e v tree k) ≡ oneIf (isAcknowledged e k)

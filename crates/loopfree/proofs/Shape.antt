@@ -30,6 +30,18 @@ rows-set n rows a row each l r x h =
     ∙ ap length (getD-set-same rows a row [] (omega arith)) ∙ r)
     (λ e. ap length (getD-set-other rows a x row [] e) ∙ each x h)
 
+module _ (net : Network) (i : ℕ) (r : Reaction) where
+  -- Any other unit than the one that reacted stays.
+  pub unit-elsewhere : (k : ℕ) → k ≢ i → unitAt (reacted net i r) k ≡ unitAt net k
+  unfolding reacted
+  unit-elsewhere k e = getD-set-other (net .units) i k (r .unit) (freshUnit 0 0) e
+
+  -- So do the queues out of any other.
+  pub queue-of-other : (x y : ℕ) → x ≢ i → queue (reacted net i r) x y ≡ queue net x y
+  unfolding reacted
+  queue-of-other x y e =
+      ap (λ (row : List (List Message)). getD row y []) (getD-set-other (net .queues) i x _ [] e)
+
 module _ (n : ℕ) (net : Network) (shape : Shape n net) where
   module _ (a b : ℕ) (messages : List Message) (ha : a < n) (hb : b < n) where
     -- The queue that was replaced.
@@ -75,11 +87,6 @@ module _ (n : ℕ) (net : Network) (shape : Shape n net) where
     unfolding reacted
     unit-here = getD-set-same (net .units) i (r .unit) (freshUnit 0 0) (rw (shape .units-length) h)
 
-    -- Any other unit.
-    pub unit-elsewhere : (k : ℕ) → k ≢ i → unitAt (reacted net i r) k ≡ unitAt net k
-    unfolding reacted
-    unit-elsewhere k e = getD-set-other (net .units) i k (r .unit) (freshUnit 0 0) e
-
     -- The queues out of the unit that reacted.
     pub queue-from : (k : ℕ) → k < n → queue (reacted net i r) i k ≡ queue net i k ++ getD (r .sent) k []
     unfolding reacted
@@ -87,12 +94,6 @@ module _ (n : ℕ) (net : Network) (shape : Shape n net) where
         ap (λ (row : List (List Message)). getD row k [])
         (getD-set-same (net .queues) i _ [] (rw (shape .queues-length) h))
         ∙ tab-at (net .count) (λ x. queue net i x ++ getD (r .sent) x []) k [] (rw (shape .counted) l)
-
-    -- The queues out of any other.
-    pub queue-of-other : (x y : ℕ) → x ≢ i → queue (reacted net i r) x y ≡ queue net x y
-    unfolding reacted
-    queue-of-other x y e =
-        ap (λ (row : List (List Message)). getD row y []) (getD-set-other (net .queues) i x _ [] e)
 
     -- The lists keep their places.
     pub shape-reacted : Shape n (reacted net i r)
@@ -105,3 +106,18 @@ module _ (n : ℕ) (net : Network) (shape : Shape n net) where
           rows-length = rows-set n (net .queues) i _ (shape .rows-length) (shape .queues-length)
               (length-tab (net .count) _ ∙ shape .counted);
         }
+
+-- The network with both queues of the link between a and b emptied.
+abbrev pub emptied : Network → (a b : ℕ) → Network
+emptied net a b = withQueue (withQueue net a b []) b a []
+
+module _ (n : ℕ) (net : Network) (shape : Shape n net) (a b : ℕ) (ha : a < n) (hb : b < n) where
+  -- Its queue from b to a is empty.
+  pub emptied-back : queue (emptied net a b) b a ≡ []
+  emptied-back = queue-here n (withQueue net a b []) (shape-queue n net shape a b [] ha hb) b a [] hb ha
+
+  -- So is its queue from a to b.
+  pub emptied-there : a ≢ b → queue (emptied net a b) a b ≡ []
+  emptied-there d =
+      queue-elsewhere n (withQueue net a b []) (shape-queue n net shape a b [] ha hb) b a [] hb ha a b (λ p q. d p)
+      ∙ queue-here n net shape a b [] ha hb

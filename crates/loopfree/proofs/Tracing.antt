@@ -4,7 +4,7 @@ use Prim.Native.Nat.{ℕ, zero, suc, _-_, _%_, _<_}
 use native.Mathlib.Nat.{mod-lt}
 use native.Mathlib.Omega.{arith}
 use mathlib.Core.Bool.{Bool, true, false}
-use mathlib.Core.List.{List, [], _∷_, _++_}
+use mathlib.Core.List.{List, [], _∷_}
 use mathlib.Core.Logic.{_≢_}
 use mathlib.Core.Path.{_≡_, refl, ap}
 use lib.Dec.{eqb}
@@ -12,7 +12,7 @@ use lib.ListN.{length, drop}
 use borrow.Author.Tests.{eqb-false}
 use Rattle.ground.specs.Choice.{if_then_else_}
 use Rattle.ground.specs.Rows.{at, rising}
-use Rattle.ground.proofs.Pigeonhole.{Each, none, one, each-at}
+use Rattle.ground.proofs.Each.{Each, none, one, each-append, each-at}
 use Rattle.rules.specs.Network.{Network, unitAt}
 use Rattle.rules.specs.Tracer.{Trace, Ending, arrived, stranded, circling, endsHere, goesOn, chosen, traceFrom, trace}
 use Rattle.rules.specs.Unit.{Unit, isSuccessor, successors}
@@ -20,11 +20,6 @@ use Rattle.loopfree.specs.Reached.{Follows, starts, hop}
 use Rattle.loopfree.proofs.Cases.{by-test}
 use Rattle.loopfree.proofs.Following.{is-unit, few-units}
 use Rattle.loopfree.proofs.Invariant.{Holds, Any}
-
--- What holds of each number of two lists holds of each of both together.
-each-append : {P : ℕ → Type 0} {xs ys : List ℕ} → Each P xs → Each P ys → Each P (xs ++ ys)
-each-append none q = q
-each-append (one p ps) q = one p (each-append ps q)
 
 -- The test holds of each unit that `rising` lists.
 rising-each : (n : ℕ) (p : ℕ → Bool) → Each (λ x. p x ≡ true) (rising n p)
@@ -36,7 +31,7 @@ chosen-successor : (u : Unit) (j choice : ℕ) → eqb (length (successors u j))
     → isSuccessor u j (chosen (successors u j) choice) ≡ true
 unfolding successors
 chosen-successor u j choice e =
-    each-at (rising-each (u .count) (isSuccessor u j)) (choice % length (successors u j))
+    each-at (rising-each (u .count) (isSuccessor u j)) (choice % length (successors u j)) 0
     (mod-lt choice (let d : length (successors u j) ≢ 0 = eqb-false (length (successors u j)) 0 e in omega arith))
 
 -- 1 for circling, 0 for the other endings.

@@ -2,35 +2,37 @@
 use Prim.Native.Nat.{ℕ, _+_, _≤_, _<_}
 use native.Mathlib.Nat.{pow-le-pow-right}
 use native.Mathlib.Omega.{arith}
-use mathlib.Core.Bool.{true, not}
+use mathlib.Core.Bool.{Bool, true, not}
 use mathlib.Core.List.{List, _∷_, _++_, append-assoc}
 use mathlib.Core.Logic.{_⊎_, inl, inr, ⊎-elim, _≢_}
 use mathlib.Core.Path.{_≡_, refl, sym, ap, _∙_}
 use borrow.Author.Tests.{eq-eqb, ne-eqb, eqb-true, ltb-true, not-false}
 use lib.Dec.{eqb, ltb}
-use lib.ListN.{length, drop, length-append, length-replicate, List·getD-append}
+use lib.ListN.{length, take, drop, length-append, length-replicate, List·getD-append}
 use lib.Seq.{drop-at}
 use Rattle.ground.specs.Choice.{if_then_else_}
 use Rattle.ground.specs.Limits.{unitLimit, far, longest}
 use Rattle.ground.specs.Refusal.{accepted, _gives_}
-use Rattle.ground.specs.Rows.{at, tab}
+use Rattle.ground.specs.Rows.{at, tab, filled}
 use Rattle.tree.specs.Tree.{distance}
 use Rattle.rules.specs.Hub.{questionRefusal, hubQuestionRefusal}
-use Rattle.rules.specs.Tables.{successorsAt, unitWords, laidRow, laidUnit, unitFrom, fitUnitTable}
-use Rattle.rules.specs.Unit.{Unit, isSuccessor, successorSet}
+use Rattle.rules.specs.Tables.{successorsAt, unitWords, part, laidRow, laidUnit, unitFrom, fitUnitTable}
+use Rattle.rules.specs.Unit.{Unit, isActive, ownDistance, isSuccessor, successorSet}
 use Rattle.ground.proofs.Bits.{bits-below}
-use Rattle.ground.proofs.Filled.{length-filled}
-use Rattle.ground.proofs.Lists.{parts, at-from}
+use Rattle.ground.proofs.Filled.{length-filled, take-filled}
+use Rattle.ground.proofs.Lists.{parts, tab-part, at-from}
 use Rattle.ground.proofs.Places.{at-filled}
 use Rattle.ground.proofs.Refusal.{gives-none, otherwise-none}
-use Rattle.ground.proofs.Rows.{length-tab, tab-at}
+use Rattle.ground.proofs.Rows.{length-tab, tab-at, tab-ext}
 use Rattle.ground.proofs.Tests.{equal-or-not, less-or-not, if-true, if-false}
 use Rattle.tree.proofs.Tree.{distance-legal}
 use Rattle.rules.proofs.Fit.{fit-unit-shaped}
 use Rattle.rules.proofs.FitUnit.{FitFacts, fit-table-facts}
 use Rattle.rules.proofs.Laid.{ShapedUnit, unit-lays-back}
-use Rattle.unit.specs.Holding.{heldOf}
-use Rattle.unit.proofs.Holding.{laid-held}
+use Rattle.unit.specs.Asked.{rowOf}
+use Rattle.unit.specs.Holding.{heldOf, unitOf}
+use Rattle.unit.specs.declared.held.Held.{Held}
+use Rattle.unit.proofs.Holding.{laid-held, holds-back}
 
 -- A number that is the refusal is the answer where it is one; else the value is.
 module _ (value : ℕ) {number refusal : ℕ} (e : number ≡ refusal) where
@@ -114,3 +116,49 @@ pub fit-set : (words : List ℕ) (to : ℕ) → Asked words to → at words (suc
 fit-set words to a =
     ap (λ (xs : List ℕ). at xs (successorsAt + to)) (sym (unit-lays-back words (a .fit)))
     ∙ set-at-place (unitFrom words) (fit-unit-shaped words (a .fit)) to (a .below)
+
+-- And the sets of all destinations.
+fit-sets : (words : List ℕ) → fitUnitTable words ≡ true
+    → part words successorsAt (unitFrom words .count) ≡ tab (unitFrom words .count) (successorSet (unitFrom words))
+unfolding unitFrom
+fit-sets words e =
+    let n = unitFrom words .count in
+    sym (tab-part successorsAt n words (omega (arith, loadable words e .0, loadable words e .1)))
+    ∙ tab-ext n (λ j. at words (successorsAt + j)) (successorSet (unitFrom words))
+    (λ j l. fit-set words j (record { fit = e; below = l }))
+
+-- What is asked of a fit table at once, from the unit that is held.
+pub row-held : (words : List ℕ) → fitUnitTable words ≡ true → {h : Held} {active : Bool} {distances successors : List ℕ}
+    → h ≡ heldOf (unitFrom words) → active ≡ isActive (unitOf h)
+    → distances ≡ filled unitLimit (tab (h .count) (distance (h .count) (h .me) (take (h .count) (h .tree))))
+    → successors ≡ filled unitLimit (part words successorsAt (h .count))
+    → record {
+      refusal = accepted;
+      count = h .count;
+      active = active;
+      distances = distances;
+      feasible = h .feasible;
+      successors = successors;
+    }
+    ≡ rowOf (unitFrom words)
+row-held words e {active = active} {distances = distances} {successors = successors} held found measured read =
+    let u = unitFrom words in
+    let s = fit-unit-shaped words e in
+    let states : active ≡ isActive u = found ∙ ap isActive (ap unitOf held ∙ holds-back u s) in
+    let own : distances ≡ laidRow (tab (u .count) (ownDistance u)) =
+    measured
+    ∙ ap (λ (h : Held). filled unitLimit (tab (h .count) (distance (h .count) (h .me) (take (h .count) (h .tree))))) held
+    ∙ ap (λ (tree : List ℕ). filled unitLimit (tab (u .count) (distance (u .count) (u .me) tree)))
+    (take-filled unitLimit (u .tree) (u .count) (s .tree)) in
+    let sets : successors ≡ laidRow (tab (u .count) (successorSet u)) =
+    read
+    ∙ ap (λ (h : Held). filled unitLimit (part words successorsAt (h .count))) held
+    ∙ ap (filled unitLimit) (fit-sets words e) in
+    λ i. record {
+      refusal = accepted;
+      count = held i .count;
+      active = states i;
+      distances = own i;
+      feasible = held i .feasible;
+      successors = sets i;
+    }

@@ -1,4 +1,5 @@
 -- What the functions of one unit are stated with, beside the rules.
+pub mod Asked
 pub mod Calls
 pub mod Flat
 pub mod Holding

@@ -32,7 +32,7 @@ fn is_bad_end(count: usize, me: usize, to: u32) -> bool
     me == to as usize
 }
 
-fn is_legal_cost(cost: u32) -> bool
+pub fn is_legal_cost(cost: u32) -> bool
     ensures { λ r. ⌜ r ≡ legalCost cost ⌝ }
 {
     if cost < 1 {

@@ -92,7 +92,7 @@ fn new_tree(unit: Held, kept: bool, through: [[u32; UNITS]; UNITS]) -> [u32; UNI
 }
 
 // The distances in a tree rooted at this unit.
-fn own_distances(count: usize, me: usize, tree: [u32; UNITS]) -> [u32; UNITS]
+pub(crate) fn own_distances(count: usize, me: usize, tree: [u32; UNITS]) -> [u32; UNITS]
     requires { ⌜ count ≤ unitLimit ⌝ }
     ensures { λ r. ⌜ r ≡ filled unitLimit (tab count (distance count me (take count tree))) ⌝ }
 {

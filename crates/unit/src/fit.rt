@@ -54,8 +54,8 @@ pub(crate) fn sets_over(
     sets
 }
 
-// Whether a row of copies holds nothing.
-fn is_empty(copy: &[u32]) -> bool
+// Whether numbers are all 0: a copy that holds nothing, a table of no unit.
+pub fn is_empty(copy: &[u32]) -> bool
     ensures { λ r. ⌜ r ≡ same (now (copy .entry)) (zeros (length (now (copy .entry)))) ⌝ }
 {
     let mut j = 0;
@@ -175,7 +175,7 @@ fn same_numbers(a: &[u32], b: &[u32]) -> bool
     true
 }
 
-pub(crate) fn is_fit(table: &[u32]) -> bool
+pub fn is_fit(table: &[u32]) -> bool
     ensures { λ r. ⌜ r ≡ fitUnitTable (now (table .entry)) ⌝ }
 {
     if table.len() != UNIT_WORDS {

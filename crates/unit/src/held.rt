@@ -38,7 +38,7 @@ pub struct Held {
 }
 
 // The first `count` numbers of a row of the table.
-fn row(table: &[u32], from: usize, count: usize) -> [u32; UNITS]
+pub(crate) fn row(table: &[u32], from: usize, count: usize) -> [u32; UNITS]
     requires { ⌜ (count ≤ unitLimit) × (from + unitLimit ≤ length (now table)) ⌝ }
     ensures { λ r. ⌜ r ≡ filled unitLimit (part (now (table .entry)) from count) ⌝ }
 {

@@ -3,16 +3,16 @@
 // A table is taken apart into arrays (`held`), tested (`fit`), changed by the event (`noting`, step A), and what the event
 // brings about follows (`event`, steps B to F): the tree is recomputed, feasible distances go down, messages are laid into
 // the lent buffer (`send`), and the arrays are laid back over the table. `calls` has the events, `questions` the fresh table
-// and what can be asked; these two are all that other crates see.
+// and what can be asked, `fit` the test of a table; these are what other crates see.
 //
 // Recomputing goes through tables of distances: those in each neighbour's copy (`through`, found by following heads,
 // `heads`), then the links out of each unit in its preferred neighbour's copy (`links`), the shortest distances over them
 // (`shortest`, which settles each unit once), and the lowest head for each unit (`recompute`).
 pub mod calls;
 mod event;
-mod fit;
+pub mod fit;
 mod heads;
-mod held;
+pub mod held;
 mod links;
 mod noting;
 pub mod questions;

@@ -6,6 +6,7 @@ ghost use Prim.Native.Nat.{_≤_};
 ghost use Rattle.ground.specs.Limits.{unitLimit, longest, far};
 ghost use Rattle.rules.specs.Tables.{laidRow};
 ghost use Rattle.rules.specs.Unit.{freshUnit};
+ghost use Rattle.unit.specs.Asked.{noRow, rowAnswer};
 ghost use Rattle.rules.specs.Hub.{freshTableAnswer, freshTable, activeAnswer, questionRefusal, distanceAnswer, feasibleAnswer, successorsAnswer, reachable};
 use crate::event;
 use crate::fit;
@@ -16,6 +17,16 @@ use ground::COPIES;
 use ground::FAR;
 use ground::UNIT_WORDS;
 use ground::UNITS;
+
+// All that can be asked of a unit at once, for each destination; or a refusal, and zeros.
+pub struct Row {
+    pub refusal: u32,
+    pub count: usize,
+    pub active: bool,
+    pub distances: [u32; UNITS],
+    pub feasible: [u32; UNITS],
+    pub successors: [u32; UNITS],
+}
 
 // Feasible distances of the fresh unit: 0 to itself, unreachable to others.
 fn fresh_feasible(count: usize, me: usize) -> [u32; UNITS]
@@ -125,4 +136,38 @@ pub fn successors(table: &[u32], to: u32) -> u32
         return number;
     }
     100 + table[held::SUCCESSORS + to as usize]
+}
+
+// The answer that is a refusal alone.
+pub fn refused(number: u32) -> Row
+    ensures { λ r. ⌜ r ≡ noRow number ⌝ }
+{
+    Row {
+        refusal: number,
+        count: 0,
+        active: false,
+        distances: [0u32; UNITS],
+        feasible: [0u32; UNITS],
+        successors: [0u32; UNITS],
+    }
+}
+
+// All questions at once, with one test of the table.
+pub fn row_of(table: &[u32]) -> Row
+    ensures { λ r. ⌜ r ≡ rowAnswer (now (table .entry)) ⌝ }
+{
+    if !fit::is_fit(table) {
+        return refused(2);
+    }
+    let unit = held::load(table);
+    let tree = unit.tree;
+    let feasible = unit.feasible;
+    Row {
+        refusal: 0,
+        count: unit.count,
+        active: event::is_active(unit),
+        distances: event::own_distances(unit.count, unit.me, tree),
+        feasible,
+        successors: held::row(table, held::SUCCESSORS, unit.count),
+    }
 }

@@ -1,0 +1,11 @@
+-- What lasts over every call: fit networks stay fit, tables that calls reach are never refused as unfit, no message in them
+-- is refused, and no frame goes in a circle.
+pub mod Demand
+pub mod EitherOrder
+pub mod NeverRefused
+pub mod Orderly
+pub mod ReachedFit
+pub mod Sending
+pub mod Shaped
+pub mod StaysFit
+pub mod TablesReached

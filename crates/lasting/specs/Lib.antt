@@ -1,0 +1,2 @@
+-- The tables that calls reach.
+pub mod ReachedTables

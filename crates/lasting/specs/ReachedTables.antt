@@ -1,0 +1,34 @@
+-- The lent tables that calls reach: the fresh network of any count from 2 to 16, then any finite sequence of link up, link
+-- down, cost change and delivery calls with any arguments, refused ones included, each leaving the tables that its contract
+-- gives.
+use Prim.Native.Nat.{ℕ}
+use mathlib.Core.List.{List, [], _∷_}
+use Rattle.rules.specs.Network.{Network, Call}
+use Rattle.rules.specs.NetworkTable.{wordsAfter, bytesAfter, freshWords, freshBytes}
+use Rattle.rules.specs.Tables.{networkFrom}
+
+-- A network's two tables: numbers for its units, bytes for its queues.
+pub record Tables : Type 0 where
+  pub words : List ℕ
+  pub bytes : List ℕ
+
+-- "each leaving the tables that its contract gives": a call's, with any arguments; a refused one leaves them as they are.
+abbrev pub after : Tables → Call → Tables
+after t call = record { words = wordsAfter (t .words) (t .bytes) call; bytes = bytesAfter (t .words) (t .bytes) call }
+
+-- "any finite sequence of link up, link down, cost change and delivery calls .., refused ones included"
+unfoldable pub runTables : Tables → List Call → Tables
+runTables t [] = t
+runTables t (call ∷ rest) = runTables (after t call) rest
+
+-- "the fresh network of any count", laid into any tables that are lent.
+abbrev pub freshTables : (words bytes : List ℕ) (n : ℕ) → Tables
+freshTables words bytes n = record { words = freshWords words bytes n; bytes = freshBytes words bytes n }
+
+-- The tables that calls reach from lent ones.
+abbrev pub reachedTables : (words bytes : List ℕ) (n : ℕ) (calls : List Call) → Tables
+reachedTables words bytes n calls = runTables (freshTables words bytes n) calls
+
+-- The network that tables hold.
+abbrev pub networkOf : Tables → Network
+networkOf t = networkFrom (t .words) (t .bytes)

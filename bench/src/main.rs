@@ -1,22 +1,30 @@
-//! Measures the C border of one hub, and the second program beside it.
+//! Measures the C border of one hub and deliveries in a network, and the second
+//! program beside them.
 //!
-//! Both sides are given the same calls, recorded once: a table as bytes and an
-//! event. Both read the table, test that it is fit, run the event, and lay out
-//! table and messages again.
+//! Both sides are given the same calls, recorded once: tables and an event. Both
+//! read the tables, test that they are fit, run the event, and lay out tables
+//! and messages again.
 //!
 //! * `bench time`: events per second, for each network.
 //! * `bench once SHAPE COUNT`: each side once over the recorded events, for a
 //!   count of instructions by the functions [`with_product`] and
 //!   [`with_second`]; prints the number of events.
+//! * `bench deliveries SHAPE COUNT`: each side once over recorded deliveries of a
+//!   network, for the functions `network_delivers` and `second_delivers`; prints
+//!   the number of deliveries.
+//! * `bench bytes`: the bytes of a network's tables and queues.
 //! * `bench stack`: the bytes of stack that a call uses, the most over all
 //!   events and questions of all networks.
 
+mod deliveries;
 mod record;
+mod site;
 mod stack;
 
 use hubs::product::{ROOM, TAKEN};
 use hubs::table;
-use record::{Recorded, SHAPES};
+use record::Recorded;
+use site::SHAPES;
 use std::env;
 use std::hint::black_box;
 use std::process::ExitCode;
@@ -34,14 +42,20 @@ fn main() -> ExitCode {
     match words.as_slice() {
         ["time"] => time(),
         ["stack"] => stack(),
-        ["once", shape, count] => {
+        ["bytes"] => deliveries::print_bytes(),
+        [what @ ("once" | "deliveries"), shape, count] => {
             let Ok(count) = count.parse() else {
                 return ExitCode::from(2);
             };
-            once(shape, count);
+            match *what {
+                "once" => once(shape, count),
+                _ => deliveries::once(shape, count),
+            }
         }
         _ => {
-            eprintln!("usage: bench time | stack | once SHAPE COUNT");
+            eprintln!(
+                "usage: bench time | stack | bytes | once SHAPE COUNT | deliveries SHAPE COUNT"
+            );
             return ExitCode::from(2);
         }
     }

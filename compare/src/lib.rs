@@ -5,8 +5,7 @@
 //! [`second`], which was written from the rules alone, and every answer and
 //! every lent place is compared.
 //!
-//! * [`product`]: the exported functions, declared and wrapped for safe use.
-//! * [`sample`]: messages made up from a seed, legal and broken.
+//! [`product`] has the exported functions, declared and wrapped for safe use.
 //!
 //! Each binary compares one part of the product. It takes a seed, so that a
 //! difference can be met again.
@@ -14,4 +13,3 @@
 #![warn(missing_docs)]
 
 pub mod product;
-pub mod sample;

@@ -65,7 +65,7 @@ impl Network {
     }
 
     /// No "link up at one end only".
-    fn links_are_fit(&self) -> bool {
+    pub(crate) fn links_are_fit(&self) -> bool {
         self.units
             .iter()
             .all(|unit| unit.neighbours.keys().all(|&k| self.is_up(k, unit.number)))

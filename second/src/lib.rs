@@ -43,6 +43,8 @@
 //!   delivery, each accepted as a whole or refused without a trace.
 //! * [`tracer`]: follows successors from a start to a destination.
 //! * [`fit`]: whether tables obey the rules, for tables set up by hand.
+//! * [`unit_table`], [`network_tables`]: the same tables as numbers and bytes,
+//!   laid out, and read only if they are fit.
 //! * [`refusal`]: the numbers with which a request is refused.
 //! * [`script`]: the command lines and their answers, on streams.
 //! * [`generator`], [`shapes`], [`malformed`], [`rng`]: scripts made up from a
@@ -68,6 +70,7 @@ pub mod generator;
 pub mod malformed;
 pub mod message;
 pub mod network;
+pub mod network_tables;
 pub mod queues;
 pub mod recompute;
 pub mod refusal;
@@ -77,3 +80,4 @@ pub mod shapes;
 pub mod tracer;
 pub mod tree;
 pub mod unit;
+pub mod unit_table;

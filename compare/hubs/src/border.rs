@@ -9,6 +9,7 @@ use crate::table;
 use second::refusal::{legal_count, legal_unit, Refusal, LAYOUT, TOO_SHORT, UNFIT};
 use second::tree::{Distance, UnitNumber};
 use second::unit::{Outbox, Unit};
+use second::unit_table::set_number;
 
 /// A fresh table. Refused with 1, 2, 3.
 pub fn fresh(count: u32, me: u32, bytes: &mut [u8]) -> u32 {
@@ -78,9 +79,7 @@ pub fn feasible(unit: &Unit, to: u32) -> u32 {
 
 /// The successors for a destination. Refused with 3.
 pub fn successors(unit: &Unit, to: u32) -> u32 {
-    about(unit, to, |j| {
-        TAKEN + table::set_number(&unit.successors[&j])
-    })
+    about(unit, to, |j| TAKEN + set_number(&unit.successors[&j]))
 }
 
 fn about(unit: &Unit, to: u32, answer: impl FnOnce(UnitNumber) -> u32) -> u32 {

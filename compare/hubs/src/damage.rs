@@ -3,11 +3,14 @@
 //! second program says of the table, anything else with its own outcome.
 
 use crate::call::Call;
-use crate::run::{Difference, Outcome, Run};
-use crate::{draw, table};
+use crate::event;
+use crate::run::{Outcome, Run};
+use crate::table;
 use second::rng::Rng;
 use second::tree::GREATEST_DISTANCE;
 use second::unit::Unit;
+use shared::draw;
+use shared::tally::Difference;
 
 /// Calls on made-up fit tables.
 pub fn compare_fit(run: &mut Run, tables: u32) -> Result<(), Difference> {
@@ -40,11 +43,11 @@ pub fn compare_damaged(run: &mut Run, tables: u32) -> Result<(), Difference> {
 /// One call on a table; the unit is what it held before the damage.
 fn call(run: &mut Run, part: &'static str, bytes: &[u8], unit: &Unit) -> Result<(), Difference> {
     let call = if run.rng.chance(80) {
-        draw::event(&mut run.rng, unit)
+        event::draw(&mut run.rng, unit)
     } else {
         question(&mut run.rng, u32::from(unit.count))
     };
-    let room = draw::room(&mut run.rng);
+    let room = event::room(&mut run.rng);
     let mut product = Outcome {
         answer: 0,
         table: bytes.to_vec(),
@@ -186,38 +189,14 @@ fn against_a_rule(rng: &mut Rng, unit: &Unit) -> Vec<u8> {
     let k = rng.pick(&neighbours).copied();
     let neighbour = k.and_then(|k| unit.neighbours.get_mut(&k));
     match (rng.between(0, 5), neighbour) {
-        (0, _) => unit.tree = loose(rng, count, unit.number, &unit.tree),
-        (1, Some(it)) => it.copy = loose(rng, count, it.copy.root, &it.copy),
+        (0, _) => unit.tree = draw::loose(rng, count, &unit.tree),
+        (1, Some(it)) => it.copy = draw::loose(rng, count, &it.copy),
         (2, Some(it)) => it.awaited = !it.awaited,
         (3, Some(it)) => it.cost = draw::legal_cost(rng),
         _ => {
             unit.feasible.insert(j, draw::distance(rng));
         }
     }
-    unit.successors = (0..count).map(|j| (j, unit.successors_by_f(j))).collect();
+    draw::set_successors(&mut unit);
     table::laid_out(&unit)
-}
-
-/// A tree with an entry set to any head, also of its root: a circle, a loose
-/// end, a head above the count, or a tree.
-fn loose(
-    rng: &mut Rng,
-    count: u8,
-    root: second::tree::UnitNumber,
-    tree: &second::tree::Tree,
-) -> second::tree::Tree {
-    let mut tree = tree.clone();
-    let unit = if rng.chance(10) {
-        root
-    } else {
-        rng.between(0, u32::from(count) - 1) as u8
-    };
-    let head = if rng.chance(85) {
-        rng.between(0, u32::from(count) - 1) as u8
-    } else {
-        rng.between(0, 17) as u8
-    };
-    let cost = rng.between(0, 9) as u16;
-    tree.entries.insert(unit, second::tree::Link { head, cost });
-    tree
 }

@@ -5,22 +5,18 @@
 //!   read back into one.
 //! * [`border`]: what [`second`] answers to the same calls.
 //! * [`call`]: a call with its arguments, made on either side.
-//! * [`draw`]: units, calls and messages made up from a seed.
+//! * [`event`]: events made up from a seed.
 //! * [`run`]: what was compared so far, and the first difference.
 //! * [`lives`], [`networks`], [`damage`]: the three parts of the comparison.
-//! * [`sample`]: messages made up from a seed, legal and broken, shared with
-//!   the comparison of messages.
 
 #![warn(missing_docs)]
 
 pub mod border;
 pub mod call;
 pub mod damage;
-pub mod draw;
+pub mod event;
 pub mod lives;
 pub mod networks;
 pub mod product;
 pub mod run;
-#[path = "../../src/sample.rs"]
-pub mod sample;
 pub mod table;

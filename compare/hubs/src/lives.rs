@@ -2,9 +2,10 @@
 //! with the second program, which keeps its own unit all along.
 
 use crate::call::Call;
-use crate::run::{Difference, Outcome, Run};
-use crate::{border, draw, product, table};
+use crate::run::{Outcome, Run};
+use crate::{border, event, product, table};
 use second::unit::Unit;
+use shared::tally::Difference;
 
 const PART: &str = "life";
 
@@ -28,7 +29,7 @@ pub fn compare_fresh(run: &mut Run) -> Result<(), Difference> {
             let (mut ours, mut theirs) = (before.clone(), before);
             let answer = product::fresh(count, me, &mut ours[..length]);
             let wanted = border::fresh(count, me, &mut theirs[..length]);
-            run.count(PART, "fresh", wanted);
+            run.tallies.count(PART, "fresh", wanted);
             if answer != wanted || ours != theirs {
                 let place = ours.iter().zip(&theirs).position(|(a, b)| a != b);
                 return Err(Difference(format!(
@@ -53,7 +54,7 @@ fn live(run: &mut Run, count: u32, me: u32, events: u32) -> Result<(), Differenc
         )));
     }
     for number in 0..events {
-        let call = draw::event(&mut run.rng, &unit);
+        let call = event::draw(&mut run.rng, &unit);
         bytes = step(run, &call, bytes, &mut unit)?;
         ask(run, &bytes, &mut unit, number % 16 == 0)?;
         if number % 20 == 10 {
@@ -70,7 +71,7 @@ fn step(
     bytes: Vec<u8>,
     unit: &mut Unit,
 ) -> Result<Vec<u8>, Difference> {
-    let room = draw::room(&mut run.rng);
+    let room = event::room(&mut run.rng);
     let out = run.buffer();
     let mut product = Outcome {
         answer: 0,

@@ -3,8 +3,9 @@
 //! `hubs [SEED]` prints the seed and how many calls of each kind were compared,
 //! with their answers. At the first difference it prints it and fails.
 
-use hubs::run::{grouped, Difference, Run};
+use hubs::run::Run;
 use hubs::{damage, lives, networks};
+use shared::tally::{grouped, Difference};
 use std::env;
 use std::process::ExitCode;
 
@@ -17,7 +18,7 @@ fn main() -> ExitCode {
     println!("seed {seed}");
     let mut run = Run::new(seed);
     let verdict = compare(&mut run);
-    run.report();
+    run.tallies.report();
     let differences = u8::from(verdict.is_err());
     if let Err(Difference(text)) = verdict {
         print!("{text}");

@@ -2,13 +2,15 @@
 //! them, event by event against the second program's network.
 
 use crate::product::{ROOM, TAKEN};
-use crate::run::{Difference, Run};
-use crate::{draw, product, table};
+use crate::run::Run;
+use crate::{product, table};
 use second::network::Network;
 use second::queues::QUEUE_LIMIT;
 use second::refusal::{Refusal, EMPTY_QUEUE, NOT_UP, QUEUE_FULL, UNIT};
 use second::rng::Rng;
 use second::shapes::{self, SHAPES};
+use shared::draw;
+use shared::tally::Difference;
 use std::collections::{BTreeMap, VecDeque};
 use std::fmt::Write as _;
 
@@ -104,7 +106,7 @@ fn step(
         Event::Down(a, b) => ("down", network.down(a, b)),
         Event::Deliver(a, b) => ("deliver", network.deliver(a, b)),
     };
-    run.count(
+    run.tallies.count(
         PART,
         kind,
         wanted.map_or_else(|refusal| refusal, |()| TAKEN),

@@ -4,8 +4,7 @@
 //! the slices only, keep no pointer and never unwind, so the wrappers are safe
 //! for all arguments.
 
-/// What an accepted call answers before its value is added.
-pub const TAKEN: u32 = 100;
+pub use shared::tally::TAKEN;
 
 /// The bytes that `out` has to have.
 pub const ROOM: usize = 975;

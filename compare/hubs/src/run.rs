@@ -1,17 +1,13 @@
 //! What was compared so far, and how a difference is told.
 
 use crate::call::Call;
-use crate::product::TAKEN;
 use crate::table;
 use second::rng::Rng;
-use std::collections::BTreeMap;
+use shared::tally::{Difference, Tallies};
 use std::fmt::Write as _;
 
 /// The bytes of the buffer of which the start is lent as `out`.
 pub const BUFFER: usize = 1_100;
-
-/// A difference, readable. It ends the run.
-pub struct Difference(pub String);
 
 /// What a call answered, and what all the lent bytes then held.
 #[derive(Clone, PartialEq, Eq)]
@@ -31,14 +27,8 @@ pub struct Run {
     pub rng: Rng,
     /// Tables that events have reached.
     pub reached: Vec<Vec<u8>>,
-    tallies: BTreeMap<(&'static str, &'static str), Tally>,
-}
-
-/// The calls of one kind, by their answers.
-#[derive(Default)]
-struct Tally {
-    accepted: u64,
-    refused: BTreeMap<u32, u64>,
+    /// What was seen so far.
+    pub tallies: Tallies,
 }
 
 impl Run {
@@ -47,7 +37,7 @@ impl Run {
         Run {
             rng: Rng::new(seed),
             reached: Vec::new(),
-            tallies: BTreeMap::new(),
+            tallies: Tallies::default(),
         }
     }
 
@@ -59,16 +49,6 @@ impl Run {
         bytes
     }
 
-    /// Counts a call of a part of the comparison.
-    pub fn count(&mut self, part: &'static str, kind: &'static str, answer: u32) {
-        let tally = self.tallies.entry((part, kind)).or_default();
-        if answer < TAKEN {
-            *tally.refused.entry(answer).or_default() += 1;
-        } else {
-            tally.accepted += 1;
-        }
-    }
-
     /// Counts a call, and compares its two outcomes.
     pub fn compare(
         &mut self,
@@ -78,7 +58,7 @@ impl Run {
         room: usize,
         [product, second]: [&Outcome; 2],
     ) -> Result<(), Difference> {
-        self.count(part, call.name(), second.answer);
+        self.tallies.count(part, call.name(), second.answer);
         if product == second {
             return Ok(());
         }
@@ -96,29 +76,9 @@ impl Run {
     pub fn totals(&self) -> (u64, u64) {
         let is_question =
             |kind: &str| matches!(kind, "active" | "distance" | "feasible" | "successors");
-        let (mut events, mut questions) = (0, 0);
-        for ((_, kind), tally) in &self.tallies {
-            let all = tally.accepted + tally.refused.values().sum::<u64>();
-            if is_question(kind) {
-                questions += all;
-            } else {
-                events += all;
-            }
-        }
+        let events = self.tallies.total(|_, kind| !is_question(kind));
+        let questions = self.tallies.total(|_, kind| is_question(kind));
         (events, questions)
-    }
-
-    /// What was compared, a line for each kind: the accepted calls, then the
-    /// refused ones by their number.
-    pub fn report(&self) {
-        for ((part, kind), tally) in &self.tallies {
-            let refused = tally.refused.iter().fold(String::new(), |mut text, it| {
-                let _ = write!(text, " {}:{}", it.0, it.1);
-                text
-            });
-            let accepted = tally.accepted;
-            println!("{part:10}{kind:11}{accepted:>9} accepted, refused{refused}");
-        }
     }
 }
 
@@ -156,19 +116,6 @@ fn shown(table: &[u8]) -> String {
                 let _ = write!(text, "{byte:02x}");
             }
         }
-    }
-    text
-}
-
-/// A number with a comma after each group of three digits.
-pub fn grouped(number: u64) -> String {
-    let digits = number.to_string();
-    let mut text = String::new();
-    for (place, digit) in digits.chars().enumerate() {
-        if place > 0 && (digits.len() - place).is_multiple_of(3) {
-            text.push(',');
-        }
-        text.push(digit);
     }
     text
 }

@@ -8,10 +8,10 @@ use std::fmt::Write as _;
 use std::process::ExitCode;
 
 use compare::product::{self, ENTRIES, FIELDS, LEADING, TAKEN};
-use compare::sample::{self, Fields};
 use second::message::{self, Entry, Message};
 use second::refusal::{legal_count, Refusal, TOO_SHORT};
 use second::rng::Rng;
+use shared::sample::{self, Fields};
 
 /// The places of the table that a reader's fields are laid into, of which only
 /// a part may be lent.

@@ -1,11 +1,12 @@
--- What it tells that no refusal applies: none of the conditions holds.
-use Prim.Native.Nat.{ℕ, suc}
+-- What it tells that no refusal applies: none of the conditions holds. And a bound of refusals.
+use Prim.Native.Nat.{ℕ, suc, _<_}
 use native.Mathlib.Omega.{arith}
 use mathlib.Core.Bool.{Bool, true, false}
 use mathlib.Core.Path.{_≡_, refl}
 use borrow.Author.Tests.{eqb-true, eqb-false}
 use lib.Dec.{eqb}
 use Rattle.ground.specs.Refusal.{accepted, _gives_, _otherwise_}
+use Rattle.ground.proofs.Choices.{by-choice}
 
 -- A condition that gives no number does not hold.
 pub gives-none : (test : Bool) (k : ℕ) → (test gives suc k) ≡ accepted → test ≡ false
@@ -19,3 +20,12 @@ otherwise-none refusal rest e = go (eqb refusal accepted) refl
     go : (t : Bool) → eqb refusal accepted ≡ t → (refusal ≡ accepted) × (rest ≡ accepted)
     go true h = (eqb-true _ _ h, rw h at e)
     go false h = absurd (eqb-false _ _ h (rw h at e))
+
+-- A condition gives a number below b, or none.
+pub gives-below : {b : ℕ} (test : Bool) (number : ℕ) → number < b → (test gives number) < b
+gives-below {b} test number h = by-choice (λ (refusal : ℕ). refusal < b) test number accepted (λ t. h) (λ t. omega arith)
+
+-- Of two refusals below b the first that applies is below b.
+pub otherwise-below : {b refusal rest : ℕ} → refusal < b → rest < b → (refusal otherwise rest) < b
+otherwise-below {b} {refusal} {rest} h k =
+    by-choice (λ (number : ℕ). number < b) (eqb refusal accepted) rest refusal (λ t. k) (λ t. h)

@@ -1,5 +1,5 @@
 -- What lasts over every call: fit networks stay fit, tables that calls reach are never refused as unfit, no message in them
--- is refused, and no frame goes in a circle.
+-- is refused, no queue holds more than 2 messages, and no frame goes in a circle.
 pub mod Demand
 pub mod EitherOrder
 pub mod NeverRefused
@@ -7,5 +7,6 @@ pub mod Orderly
 pub mod ReachedFit
 pub mod Sending
 pub mod Shaped
+pub mod ShortQueues
 pub mod StaysFit
 pub mod TablesReached

@@ -76,7 +76,7 @@ abbrev pub Roomy : Network → Type 0
 Roomy net = (a b : ℕ) → a < net .count → b < net .count → length (queue net a b) ≤ queueRoom
 
 -- It is so where none overflows.
-queue-room : (net : Network) → overflows net ≡ false → Roomy net
+pub queue-room : (net : Network) → overflows net ≡ false → Roomy net
 unfolding overflows
 queue-room net e a b ha hb =
     ltb-false queueRoom (length (queue net a b))

@@ -50,7 +50,7 @@ module _ (n : ℕ) (few : n ≤ 255) (net : Network) (holds : Holds n Any net) w
       keeps-delivery n few net holds a b (t .first) (t .second) (t .differ) m rest q (message-tree (unitAt net b) m r)
 
   -- An accepted call keeps the invariant.
-  keeps-call : (call : Call) (result : Network) → refusalOf net call result ≡ accepted → Holds n Any (outcome net call)
+  pub keeps-call : (call : Call) (result : Network) → refusalOf net call result ≡ accepted → Holds n Any (outcome net call)
   unfolding outcome
   keeps-call (up a b ca cb) result e =
       let known : AcceptedUp net a b result ca cb = accepted-up net a b result ca cb e in

@@ -29,7 +29,7 @@ pub rest-counts : (a rest : ℕ) → a ≡ accepted → (a otherwise rest) ≡ r
 rest-counts a rest e = if-true (eqb a accepted) rest a (eq-eqb a accepted e)
 
 -- Three in a row, grouped either way.
-in-a-row : (a b c : ℕ) → (a otherwise (b otherwise c)) ≡ ((a otherwise b) otherwise c)
+pub in-a-row : (a b c : ℕ) → (a otherwise (b otherwise c)) ≡ ((a otherwise b) otherwise c)
 in-a-row a b c = go (eqb a accepted) refl
   where
     go : (t : Bool) → eqb a accepted ≡ t → (a otherwise (b otherwise c)) ≡ ((a otherwise b) otherwise c)

@@ -1,9 +1,6 @@
-//! Units, calls and messages made up from a seed.
+//! Numbers, distances, trees and units made up from a seed, and messages that
+//! neighbours of such units could send.
 
-use crate::call::Call;
-use crate::product::ROOM;
-use crate::run::BUFFER;
-use crate::sample;
 use second::message::Message;
 use second::recompute::Neighbour;
 use second::rng::Rng;
@@ -44,69 +41,8 @@ pub fn other(rng: &mut Rng, count: u8, me: u8, wanted: &[UnitNumber]) -> u32 {
     }
 }
 
-/// How many bytes of the buffer are lent: most often enough.
-pub fn room(rng: &mut Rng) -> usize {
-    match rng.between(0, 49) {
-        0 => rng.between(0, ROOM as u32 - 1) as usize,
-        1 => ROOM - 1,
-        2..=9 => rng.between(ROOM as u32, BUFFER as u32) as usize,
-        _ => ROOM,
-    }
-}
-
-/// An event, most often one that the unit accepts.
-pub fn event(rng: &mut Rng, unit: &Unit) -> Call {
-    let up: Vec<UnitNumber> = unit.neighbours.keys().copied().collect();
-    let down: Vec<UnitNumber> = (0..unit.count)
-        .filter(|k| *k != unit.number && !up.contains(k))
-        .collect();
-    let mut other = |wanted: &[UnitNumber]| other(rng, unit.count, unit.number, wanted);
-    let (to_up, to_down) = (other(&up), other(&down));
-    match rng.between(0, 99) {
-        0..=12 if down.is_empty() => Call::Down(to_up),
-        0..=17 => Call::Up(to_down, cost(rng)),
-        18..=32 => Call::Cost(to_up, cost(rng)),
-        33..=38 => Call::Down(to_up),
-        _ => Call::Message(to_up, message(rng, unit, to_up)),
-    }
-}
-
-/// The bytes of a message from a unit, legal or not.
-fn message(rng: &mut Rng, unit: &Unit, from: u32) -> Vec<u8> {
-    let neighbour = u8::try_from(from)
-        .ok()
-        .and_then(|k| Some((k, unit.neighbours.get(&k)?)));
-    let Some((k, neighbour)) = neighbour else {
-        return sample::noise(rng);
-    };
-    let count = unit.count;
-    let mut message = expected(rng, count, k, neighbour);
-    let case = rng.between(0, 99);
-    match case {
-        0..=5 => message.acknowledgment = true,
-        6..=10 => add_idle(rng, count, k, neighbour, &mut message),
-        11..=16 => message.update = Some(any_differences(rng, count, k)),
-        17..=19 => message.sender = rng.between(0, u32::from(count) - 1) as u8,
-        _ => {}
-    }
-    let Ok(bytes) = message.to_bytes(u32::from(count)) else {
-        return sample::noise(rng);
-    };
-    match case {
-        20..=23 => sample::flipped(rng, bytes),
-        24..=25 => sample::truncated(rng, bytes),
-        26..=27 => sample::extended(rng, bytes),
-        28 => sample::noise(rng),
-        29 => {
-            let other = sample::laid_out(&sample::legal(rng));
-            sample::spliced(rng, &bytes, &other)
-        }
-        _ => bytes,
-    }
-}
-
-/// A message that the unit accepts from this neighbour.
-fn expected(rng: &mut Rng, count: u8, k: UnitNumber, neighbour: &Neighbour) -> Message {
+/// A message that a unit accepts from its neighbour k.
+pub fn expected(rng: &mut Rng, count: u8, k: UnitNumber, neighbour: &Neighbour) -> Message {
     let acknowledgment = neighbour.awaited && rng.chance(75);
     let update = (!acknowledgment || rng.chance(50)).then(|| {
         let changes = rng.between(0, u32::from(count));
@@ -120,8 +56,8 @@ fn expected(rng: &mut Rng, count: u8, k: UnitNumber, neighbour: &Neighbour) -> M
     }
 }
 
-/// An entry more that changes nothing.
-fn add_idle(rng: &mut Rng, count: u8, k: UnitNumber, neighbour: &Neighbour, it: &mut Message) {
+/// An entry more that changes nothing in the copy.
+pub fn add_idle(rng: &mut Rng, count: u8, k: UnitNumber, neighbour: &Neighbour, it: &mut Message) {
     let others: Vec<UnitNumber> = (0..count).filter(|&j| j != k).collect();
     if let Some(&j) = rng.pick(&others) {
         let same = neighbour.copy.entries.get(&j).copied();
@@ -130,8 +66,13 @@ fn add_idle(rng: &mut Rng, count: u8, k: UnitNumber, neighbour: &Neighbour, it: 
 }
 
 /// Differences that keep the layout and seldom lead to a tree.
-fn any_differences(rng: &mut Rng, count: u8, k: UnitNumber) -> Differences {
+pub fn any_differences(rng: &mut Rng, count: u8, k: UnitNumber) -> Differences {
     let share = rng.between(5, 60);
+    differences(rng, count, k, share)
+}
+
+/// Differences that keep the layout, with an entry for so many of 100 units.
+pub fn differences(rng: &mut Rng, count: u8, k: UnitNumber, share: u32) -> Differences {
     let mut differences = Differences::new();
     for j in (0..count).filter(|&j| j != k) {
         if rng.chance(share) {
@@ -209,12 +150,25 @@ pub fn distance(rng: &mut Rng) -> Distance {
     }
 }
 
-/// A unit with fit tables that most often no sequence has reached.
+/// A unit of any network with fit tables that most often no sequence has
+/// reached.
 pub fn fit_unit(rng: &mut Rng) -> Unit {
     let count = rng.between(2, 16) as u8;
     let number = rng.between(0, u32::from(count) - 1) as u8;
     let share = rng.between(0, 100);
     let waits = rng.between(0, 60);
+    unit(rng, count, number, waits, |rng, _| rng.chance(share))
+}
+
+/// A unit with fit tables: which links are up is asked, everything else is
+/// drawn, waits in so many of 100 cases.
+pub fn unit(
+    rng: &mut Rng,
+    count: u8,
+    number: UnitNumber,
+    waits: u32,
+    is_linked: impl Fn(&mut Rng, UnitNumber) -> bool,
+) -> Unit {
     let mut unit = Unit {
         number,
         count,
@@ -225,7 +179,7 @@ pub fn fit_unit(rng: &mut Rng) -> Unit {
     };
     unit.feasible.insert(number, Distance::ZERO);
     for k in (0..count).filter(|&k| k != number) {
-        if rng.chance(share) {
+        if is_linked(rng, k) {
             let neighbour = Neighbour {
                 cost: legal_cost(rng),
                 copy: tree(rng, count, k),
@@ -234,6 +188,32 @@ pub fn fit_unit(rng: &mut Rng) -> Unit {
             unit.neighbours.insert(k, neighbour);
         }
     }
-    unit.successors = (0..count).map(|j| (j, unit.successors_by_f(j))).collect();
+    set_successors(&mut unit);
     unit
+}
+
+/// Successors as F gives them, after other tables were changed by hand.
+pub fn set_successors(unit: &mut Unit) {
+    unit.successors = (0..unit.count)
+        .map(|j| (j, unit.successors_by_f(j)))
+        .collect();
+}
+
+/// A tree with an entry set to any head, also of its root: a circle, a loose
+/// end, a head above the count, or a tree.
+pub fn loose(rng: &mut Rng, count: u8, tree: &Tree) -> Tree {
+    let mut tree = tree.clone();
+    let unit = if rng.chance(10) {
+        tree.root
+    } else {
+        rng.between(0, u32::from(count) - 1) as u8
+    };
+    let head = if rng.chance(85) {
+        rng.between(0, u32::from(count) - 1) as u8
+    } else {
+        rng.between(0, 17) as u8
+    };
+    let cost = rng.between(0, 9) as u16;
+    tree.entries.insert(unit, Link { head, cost });
+    tree
 }

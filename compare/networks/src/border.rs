@@ -1,0 +1,86 @@
+//! What the second implementation answers to the product's calls: the refusals
+//! that the product's tables add to [`second::network`], and results as the
+//! product's numbers.
+
+use crate::product::{ARRIVED, CIRCLING, STRANDED, TAKEN};
+use second::network::Network;
+use second::network_tables::{Tables, BYTES, WORDS};
+use second::refusal::{legal_count, legal_unit, Refusal, UNFIT};
+use second::tracer::Ending;
+use second::tree::Distance;
+use second::unit_table::set_number;
+
+/// A fresh network in lent slices. Refused with 1, then with 2 for their
+/// lengths, "all that is tested for the fresh network".
+pub fn fresh(count: u32, words: &mut [u32], queues: &mut [u8]) -> u32 {
+    let fresh = || {
+        legal_count(count)?;
+        if words.len() != WORDS || queues.len() != BYTES {
+            return Err(UNFIT);
+        }
+        Network::fresh(count)
+    };
+    match fresh() {
+        Err(refusal) => refusal,
+        Ok(network) => {
+            let tables = Tables::of(&network);
+            words.copy_from_slice(&tables.words);
+            queues.copy_from_slice(&tables.queues);
+            TAKEN
+        }
+    }
+}
+
+/// An accepted call, or the refusal.
+pub fn done(result: Result<(), Refusal>) -> u32 {
+    result.map_or_else(|refusal| refusal, |()| TAKEN)
+}
+
+/// Whether a unit is ACTIVE. Refused with 3.
+pub fn state(network: &Network, i: u32) -> u32 {
+    let unit = legal_unit(network.count(), i);
+    unit.map_or_else(
+        |refusal| refusal,
+        |i| TAKEN + u32::from(network.unit(i).is_active()),
+    )
+}
+
+/// The distance of a destination. Refused with 3.
+pub fn distance(network: &Network, i: u32, j: u32) -> u32 {
+    distance_answer(network.distance(i, j))
+}
+
+/// The feasible distance of a destination. Refused with 3.
+pub fn feasible(network: &Network, i: u32, j: u32) -> u32 {
+    distance_answer(network.feasible(i, j))
+}
+
+fn distance_answer(distance: Result<Distance, Refusal>) -> u32 {
+    match distance {
+        Err(refusal) => refusal,
+        Ok(Distance::Finite(sum)) => TAKEN + sum,
+        Ok(Distance::Unreachable) => u32::MAX,
+    }
+}
+
+/// The successors for a destination. Refused with 3.
+pub fn successors(network: &Network, i: u32, j: u32) -> u32 {
+    let set = network.successors(i, j);
+    set.map_or_else(|refusal| refusal, |set| TAKEN + set_number(set))
+}
+
+/// A trace. Refused with 3, 7.
+pub fn trace(
+    network: &Network,
+    start: u32,
+    destination: u32,
+    choices: &[u8],
+    path: &mut [u8],
+) -> u32 {
+    match network.trace(start, destination, choices, path) {
+        Err(refusal) => refusal,
+        Ok(Ending::Arrived { hops }) => ARRIVED + hops as u32,
+        Ok(Ending::Stranded { hops }) => STRANDED + hops as u32,
+        Ok(Ending::Circling { hops }) => CIRCLING + hops as u32,
+    }
+}

@@ -1,0 +1,105 @@
+-- No queue of a network that calls reach holds more than 2 messages: each holds an update or an acknowledgment, and of each
+-- there is at most one on the way in one direction. So no call makes a queue pass 4.
+use Prim.Native.Nat.{ℕ, _+_, _≤_, _<_, _%_}
+use native.Mathlib.Omega.{arith}
+use mathlib.Core.Bool.{true, false}
+use mathlib.Core.List.{List}
+use mathlib.Core.Path.{_≡_, sym}
+use borrow.Author.Tests.{ltb-true, leb-true, leb-false, eq-eqb}
+use lib.Dec.{ltb}
+use lib.ListN.{length}
+use Rattle.ground.specs.Limits.{queueRoom, legalCount}
+use Rattle.ground.specs.Refusal.{accepted}
+use Rattle.ground.specs.Rows.{some}
+use Rattle.rules.specs.Message.{Message, update, holdsUpdate, holdsAcknowledgment, legalMessage}
+use Rattle.rules.specs.Network.{Network, Call, queue, isUp, outcome, overflows, refusalOf, fitQueued}
+use Rattle.loopfree.specs.Reached.{reached}
+use Rattle.ground.proofs.Each.{none, one}
+use Rattle.ground.proofs.Lists.{parts}
+use Rattle.ground.proofs.Rows.{some-at}
+use Rattle.ground.proofs.Tests.{not-yes}
+use Rattle.rules.proofs.Fit.{FitNetwork, fit-network-of}
+use Rattle.rules.proofs.Laid.{ShapedNetwork}
+use Rattle.loopfree.proofs.Cases.{by-test, by-equal}
+use Rattle.loopfree.proofs.Exchange.{oneIf, one-of, countIn, updatesIn, acksIn}
+use Rattle.loopfree.proofs.Invariant.{Holds, Any, LineOf}
+use Rattle.loopfree.proofs.Kept.{keeps-call, reached-holds}
+use Rattle.loopfree.proofs.Sound.{Home}
+use Rattle.lasting.proofs.Orderly.{Orderly}
+use Rattle.lasting.proofs.ReachedFit.{reached-fit, reached-shaped}
+use Rattle.lasting.proofs.Sending.{Proper}
+use Rattle.lasting.proofs.Shaped.{orderly-of, outcome-orderly}
+
+-- "Byte 2: 1 acknowledgment, 2 update, 3 both": a legal message holds one of the two.
+holds-one : (n a : ℕ) (m : Message) → fitQueued n a m ≡ true → 1 ≤ oneIf (holdsUpdate m) + oneIf (holdsAcknowledgment m)
+unfolding fitQueued legalMessage
+holds-one n a m e =
+    by-test (holdsUpdate m)
+    (λ h. omega (arith, one-of (holdsUpdate m) h))
+    (λ h.
+    let least : 1 ≤ m .kind = leb-true 1 (m .kind) (search parts) in
+    let most : m .kind < 2 = leb-false update (m .kind) h in
+    omega (arith, one-of (holdsAcknowledgment m) (eq-eqb (m .kind % 2) 1 (omega arith))))
+
+-- So proper messages are at most as many as the updates and the acknowledgments in them.
+proper-few : (n a : ℕ) {ms : List Message} → Proper n a ms → length ms ≤ updatesIn ms + acksIn ms
+unfolding countIn
+proper-few n a none = omega arith
+proper-few n a (one {x = m} p ps) = omega (arith, holds-one n a m p, proper-few n a ps)
+
+module _ (n : ℕ) (net : Network) (holds : Holds n Any net) (o : Orderly net) where
+  -- A unit has no link to itself.
+  self-down : (a : ℕ) → a < n → isUp net a a ≡ false
+  self-down a ha =
+      let h : Home n a _ = holds .home a ha in
+      rw (rw (h .named) at (h .sound .links .self))
+
+  -- Each queue holds at most 2 messages.
+  two-queued : (a b : ℕ) → a < n → b < n → length (queue net a b) ≤ 2
+  two-queued a b ha hb =
+      by-equal a b
+      (λ ab. rw (ab, o .quiet b b (rw (holds .shape .counted) hb) (rw (holds .shape .counted) hb) (self-down b hb))
+      (omega arith))
+      (λ ab.
+      let there : LineOf n net a b = holds .lines a b ha hb ab in
+      let back : LineOf n net b a = holds .lines b a hb ha (λ q. ab (sym q)) in
+      omega (
+        arith,
+        proper-few _ a (o .queued a b (rw (holds .shape .counted) ha) (rw (holds .shape .counted) hb)),
+        there .balance,
+        there .single,
+        back .balance,
+        back .single,
+      ))
+
+  -- So none passes 4: "some queue would pass 4 messages" is not so.
+  never-over : overflows net ≡ false
+  unfolding overflows
+  never-over =
+      not-yes _ (λ t.
+      let row : (a : ℕ) × (a < net .count) × (some (net .count) (λ b. ltb queueRoom (length (queue net a b))) ≡ true) =
+      some-at (net .count) _ t in
+      let place : (b : ℕ) × (b < net .count) × (ltb queueRoom (length (queue net (row .0) b)) ≡ true) =
+      some-at (net .count) _ (row .2) in
+      omega (
+        arith,
+        two-queued (row .0) (place .0) (omega (arith, row .1, holds .shape .counted))
+            (omega (arith, place .1, holds .shape .counted)),
+        ltb-true queueRoom (length (queue net (row .0) (place .0))) (place .2),
+      ))
+
+-- None passes 4 in the outcome of a call that would not be refused on some result, be it another.
+pub outcome-never-over : (n : ℕ) (net : Network) → Holds n Any net → FitNetwork net → ShapedNetwork net → (call : Call)
+    (result : Network) → refusalOf net call result ≡ accepted → overflows (outcome net call) ≡ false
+outcome-never-over n net holds f s call result e =
+    never-over n (outcome net call)
+    (keeps-call n (omega (arith, holds .shape .counted, f .high)) net holds call result e)
+    (outcome-orderly net f s call result e)
+
+-- Each queue of a network that calls reach holds at most 2 messages.
+pub few-queued : (n : ℕ) → legalCount n ≡ true → (calls : List Call) (a b : ℕ) → a < n → b < n
+    → length (queue (reached n calls) a b) ≤ 2
+few-queued n legal calls =
+    two-queued n (reached n calls) (reached-holds n legal calls)
+    (orderly-of (reached n calls) (fit-network-of (reached n calls) (reached-fit n legal calls))
+    (reached-shaped n legal calls))

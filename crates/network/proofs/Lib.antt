@@ -1,0 +1,26 @@
+-- The laws by which the network's code meets its contracts.
+pub mod Answering
+pub mod Asking
+pub mod Delivering
+pub mod Events
+pub mod Fresh
+pub mod Greatest
+pub mod Happening
+pub mod Laying
+pub mod OneEvent
+pub mod Outgoing
+pub mod Parts
+pub mod PlacesFit
+pub mod QueueBytes
+pub mod Queueing
+pub mod Refusing
+pub mod Sent
+pub mod Started
+pub mod Storing
+pub mod Stretches
+pub mod Tabled
+pub mod Telling
+pub mod Testing
+pub mod Tiles
+pub mod TwoEvents
+pub mod Untouched

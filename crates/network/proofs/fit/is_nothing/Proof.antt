@@ -1,0 +1,53 @@
+-- `network::fit::is_nothing` meets its contract. The invariant: what the greatest of the bytes below i tells of them.
+use Prim.Native.Nat.{_-_, _≤_}
+use borrow.Author.Needs.{needs}
+use lib.ListN.{length}
+use Rattle.network.proofs.Greatest.{Greatest, greatest-none, greatest-more, greatest-all}
+use Rattle.network.proofs.fit.is_nothing.Statement.{statement}
+use Rattle.network.proofs.fit.is_nothing.Tie as tie
+
+abbrev Inv-loop : tie.InvT-loop
+Inv-loop bytes most₀ i₀ most i = (i ≤ length bytes) × Greatest bytes i most
+
+abbrev μ-loop : tie.MeasureT-loop
+μ-loop bytes most₀ i₀ most i = length bytes - i
+
+loop-holds : tie.Need-loop-holds Inv-loop μ-loop
+loop-holds c = (search needs, greatest-none (c .before .args .bytes .now))
+
+shared-slice-read-greater : tie.Need-shared-slice-read-greater Inv-loop μ-loop
+shared-slice-read-greater c = search needs
+
+greater-requires : tie.Need-greater-requires Inv-loop μ-loop
+greater-requires c κs = search needs
+
+add-i : tie.Need-add-i Inv-loop μ-loop
+add-i c = search needs
+
+loop-less : tie.Need-loop-less Inv-loop μ-loop
+loop-less c = search needs
+
+loop-again : tie.Need-loop-again Inv-loop μ-loop
+loop-again c =
+    let here = c .before .before .before .loop in
+    let bytes = c .before .before .before .before .before .args .bytes .now in
+    (search needs, rw (c .greater .ensures) (greatest-more bytes (here .i) (here .most) (here .inv .1)))
+
+returns : tie.Need-returns Inv-loop μ-loop
+returns c =
+    let here = c .before .loop in
+    greatest-all (c .before .before .before .args .bytes .now) (here .i) (here .most) (here .inv .1) (c .loop-test .left)
+
+pub is-nothing-spec : {M : Type 1} → statement M
+is-nothing-spec =
+    tie.close
+    (tie.spec
+    Inv-loop
+    μ-loop
+    loop-holds
+    shared-slice-read-greater
+    greater-requires
+    add-i
+    loop-less
+    loop-again
+    returns)

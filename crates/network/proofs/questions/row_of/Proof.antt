@@ -1,0 +1,78 @@
+-- `network::questions::row_of` meets its contract: the answers are the unit's, by `row-asked`.
+use Prim.Native.Nat.{_*_}
+use mathlib.Core.Path.{_≡_, refl, sym, _∙_}
+use borrow.Author.Needs.{needs}
+use Rattle.ground.specs.Refusal.{accepted}
+use Rattle.rules.specs.NetworkTable.{unitRefusal}
+use Rattle.rules.specs.Tables.{unitWords}
+use Rattle.network.specs.Asking.{rowAt}
+use Rattle.network.proofs.Asking.{unit-asked, table-inside, row-refused, row-asked}
+use Rattle.network.proofs.Stretches.{lent}
+use Rattle.network.proofs.questions.row_of.Statement.{statement}
+use Rattle.network.proofs.questions.row_of.Tie as tie
+
+-- Nothing refuses the question.
+nothing-refused : (c : tie.Else1)
+    → let args = c .before .before .before .before .args in
+    unitRefusal (args .words .now) (args .queues .now) (args .i) ≡ accepted
+nothing-refused c = sym (c .before .unit-refusal .ensures) ∙ c .if1 .left
+
+unit-refusal-requires : tie.Need-unit-refusal-requires
+unit-refusal-requires c κs = search needs
+
+refused-requires : tie.Need-refused-requires
+refused-requires c κs = search needs
+
+returns : tie.Need-returns
+returns c =
+    let args = c .before .before .before .before .before .args in
+    c .refused .ensures
+    ∙ row-refused (args .words .now) (args .queues .now) (args .i) (c .before .before .unit-refusal .ensures)
+    (c .before .if1 .taken)
+
+mul-from : tie.Need-mul-from
+mul-from c = search needs
+
+add-row-of : tie.Need-add-row-of
+add-row-of c = search needs
+
+mul-row-of : tie.Need-mul-row-of
+mul-row-of c = search needs
+
+sub-row-of : tie.Need-sub-row-of
+sub-row-of c = search needs
+
+part-row-of-start : tie.Need-part-row-of-start
+part-row-of-start c = search needs
+
+part-row-of-end : tie.Need-part-row-of-end
+part-row-of-end c =
+    let args = c .before .before .before .before .args in
+    let known = unit-asked (args .words .now) (args .queues .now) (args .i) (nothing-refused c) in
+    let inside = table-inside (args .words .now) (args .queues .now) (known .0) (args .i) (known .1) in
+    search needs
+
+row-of-requires : tie.Need-row-of-requires
+row-of-requires c κs = search needs
+
+returns-2 : tie.Need-returns-2
+returns-2 c =
+    let args = c .before .before .before .before .before .before .args in
+    rw (c .row-of .ensures, lent (args .words .now) (args .i * unitWords) unitWords refl)
+    (row-asked (args .words .now) (args .queues .now) (args .i) (nothing-refused (c .before .before)))
+
+pub row-of-spec : {M : Type 1} → statement M
+row-of-spec =
+    tie.close
+    (tie.spec
+    unit-refusal-requires
+    refused-requires
+    returns
+    mul-from
+    add-row-of
+    mul-row-of
+    sub-row-of
+    part-row-of-start
+    part-row-of-end
+    row-of-requires
+    returns-2)

@@ -1,0 +1,2 @@
+-- The tracer's answer, and the numbers that stand for it.
+pub mod Tracing

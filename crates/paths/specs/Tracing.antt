@@ -1,0 +1,62 @@
+-- The tracer over tables: a set of successors as the units in it, and the answer as an enum with its numbers.
+use Prim.Native.Nat.{ℕ, _+_, _≤_, _<_}
+use mathlib.Core.Bool.{true}
+use mathlib.Core.List.{List}
+use mathlib.Core.Path.{_≡_}
+use lib.Dec.{eqb}
+use Rattle.ground.specs.Choice.{if_then_else_}
+use Rattle.ground.specs.Refusal.{accepted}
+use Rattle.ground.specs.Rows.{at, rising, isIn}
+use Rattle.rules.specs.NetworkTable.{traceTableRefusal}
+use Rattle.rules.specs.Tables.{networkFrom, fitTables}
+use Rattle.rules.specs.Tracer.{Trace, Ending, arrived, stranded, circling, trace, hops, pathLaid}
+use Rattle.paths.specs.declared.tracer.Traced.{Traced}
+use Rattle.paths.specs.declared.tracer.Traced.the-variants.{Arrived, Stranded, Circling, Refused}
+
+-- The units in a set, rising.
+abbrev pub unitsIn : (n set : ℕ) → List ℕ
+unitsIn n set = rising n (isIn set)
+
+-- "answers which, with the hops": what the tracer answers at an ending after some hops; and to a trace.
+abbrev pub endedAs : Ending → (hops : ℕ) → Traced
+endedAs arrived hops = Arrived hops
+endedAs stranded hops = Stranded hops
+endedAs circling hops = Circling hops
+
+abbrev pub tracedAs : Trace → Traced
+tracedAs t = endedAs (t .ending) (hops t)
+
+-- The answer over tables: the refusal, or what the trace gives.
+unfoldable pub traceAnswer : (words bytes : List ℕ) (start destination : ℕ) (choices path : List ℕ) → Traced
+traceAnswer words bytes start destination choices path =
+    if eqb (traceTableRefusal words bytes start destination choices path) accepted
+    then tracedAs (trace (networkFrom words bytes) start destination choices)
+    else Refused (traceTableRefusal words bytes start destination choices path)
+
+-- The number that stands for an answer: a refusal's own, below 100; 100 and the hops for arrived, 200 and the hops for
+-- stranded, 300 and the hops for circling.
+abbrev pub traceNumber : Traced → ℕ
+traceNumber (Arrived hops) = 100 + hops
+traceNumber (Stranded hops) = 200 + hops
+traceNumber (Circling hops) = 300 + hops
+traceNumber (Refused number) = number
+
+-- What a path is followed over: tables that are fit with some queues, two units of theirs, and room.
+pub record Traceable (words : List ℕ) (start destination choices places : ℕ) : Type 0 where
+  pub bytes : List ℕ
+  pub fit : fitTables words bytes ≡ true
+  pub begun : start < at words 0
+  pub aimed : destination < at words 0
+  pub chosen : at words 0 ≤ choices + 1
+  pub room : at words 0 ≤ places
+
+-- The answer, and the path buffer afterwards, that the trace over such tables gives, whatever their queues.
+abbrev pub EndsAs : (words : List ℕ) (start destination : ℕ) (choices : List ℕ) → Traced → Type 0
+EndsAs words start destination choices answer =
+    (bytes : List ℕ) → fitTables words bytes ≡ true
+    → answer ≡ tracedAs (trace (networkFrom words bytes) start destination choices)
+
+abbrev pub LaysPath : (words : List ℕ) (start destination : ℕ) (choices path after : List ℕ) → Type 0
+LaysPath words start destination choices path after =
+    (bytes : List ℕ) → fitTables words bytes ≡ true
+    → after ≡ pathLaid (trace (networkFrom words bytes) start destination choices) path

@@ -1,0 +1,30 @@
+-- A command's call and its answer, and the line that the answer prints.
+use Prim.Native.Nat.{ℕ}
+use mathlib.Core.Bool.{Bool}
+use mathlib.Core.List.{List}
+use lib.Dec.{eqb, leb}
+use Rattle.ground.specs.Choice.{if_then_else_}
+use Rattle.rules.specs.Hub.{hubAnswer}
+use Rattle.rules.specs.Network.{up, cost, down, deliver}
+use Rattle.rules.specs.NetworkTable.{networkAnswer, freshNetworkRefusal}
+use Rattle.script.specs.Answers.{okLine, refusedLine, badLine}
+use Rattle.script.specs.declared.line.Command.{Command}
+use Rattle.script.specs.declared.line.Command.the-variants.{Units, Up, Cost, Down, Deliver, Show, Bad}
+
+-- The number of a line that is no command: above every answer of a call.
+abbrev pub badNumber : ℕ
+badNumber = 200
+
+-- The answer of the call that a command is.
+abbrev pub actNumber : (words bytes : List ℕ) → Command → ℕ
+actNumber words bytes (Units n) = hubAnswer (freshNetworkRefusal words bytes n) 0
+actNumber words bytes (Up a b ca cb) = networkAnswer words bytes (up a b ca cb)
+actNumber words bytes (Cost a b c) = networkAnswer words bytes (cost a b c)
+actNumber words bytes (Down a b) = networkAnswer words bytes (down a b)
+actNumber words bytes (Deliver a b) = networkAnswer words bytes (deliver a b)
+actNumber words bytes Show = badNumber
+actNumber words bytes Bad = badNumber
+
+-- What is printed for it.
+abbrev pub saidOf : (number : ℕ) → List ℕ
+saidOf number = if eqb number badNumber then badLine else if leb 100 number then okLine else refusedLine number

@@ -1,0 +1,228 @@
+//! A network's tables: laid out by hand, read back, and refused by each rule
+//! that refusal 2 lists.
+
+use second::generator;
+use second::network::Network;
+use second::network_tables::{byte_name, queue_at, word_name, Tables, BYTES, PLACE, WORDS};
+use second::refusal::UNFIT;
+use second::rng::Rng;
+use second::script::Runner;
+use std::io;
+
+/// The numbers of one unit.
+const UNIT: usize = 338;
+
+/// P3: two units, up 0-1 at costs 5 and 7.
+fn p3() -> Network {
+    let mut network = Network::fresh(2).unwrap();
+    network.up(0, 1, 5, 7).unwrap();
+    network
+}
+
+/// A chain 0-1-2 of three units with messages under way.
+fn chain() -> Network {
+    let mut network = Network::fresh(3).unwrap();
+    network.up(0, 1, 1, 1).unwrap();
+    network.up(1, 2, 1, 1).unwrap();
+    network.deliver(0, 1).unwrap();
+    network
+}
+
+fn is_fit(tables: &Tables) -> bool {
+    match tables.read() {
+        Ok(network) => {
+            assert!(network.is_fit(), "the other judgement differs");
+            assert_eq!(Tables::of(&network), *tables, "a second layout");
+            true
+        }
+        Err(refusal) => {
+            assert_eq!(refusal, UNFIT);
+            false
+        }
+    }
+}
+
+/// Every place of P3's tables, from the index rule by hand. The messages are
+/// P4's and its mirror image.
+#[test]
+fn two_units_by_hand() {
+    let mut tables = Tables {
+        words: vec![0; 5_408],
+        queues: vec![0; 65_536],
+    };
+    for (place, word) in [(0, 2), (3, 5), (19, 1), (35, 5), (51, 5), (67, 2)] {
+        tables.words[place] = word;
+    }
+    for (place, word) in [(0, 2), (1, 1), (2, 7), (18, 1), (50, 7), (66, 1)] {
+        tables.words[338 + place] = word;
+    }
+    tables.words[338 + 34] = 1 << 16 | 7;
+    tables.queues[256..264].copy_from_slice(&[1, 0, 2, 1, 1, 0, 0, 5]);
+    tables.queues[4_096..4_104].copy_from_slice(&[1, 1, 2, 1, 0, 1, 0, 7]);
+    assert_eq!(Tables::of(&p3()), tables);
+    assert_eq!(tables.read(), Ok(p3()));
+}
+
+/// P5: the second message of queue 1 to 0 is in the second place.
+#[test]
+fn a_second_message() {
+    let mut network = p3();
+    network.deliver(0, 1).unwrap();
+    let tables = Tables::of(&network);
+    assert_eq!(tables.queues[256..512], [0; 256]);
+    assert_eq!(tables.queues[4_160..4_165], [1, 1, 1, 0, 0]);
+    assert_eq!(tables.read(), Ok(network));
+}
+
+#[test]
+fn names_of_places() {
+    let name = word_name(UNIT + 51);
+    assert_eq!(name, "unit 1, number 51 (feasible distance of 1)");
+    let name = byte_name(queue_at(2, 3) + PLACE + 5);
+    assert_eq!(name, "queue 2 to 3, message 1, byte 5");
+}
+
+#[test]
+fn lengths() {
+    let fit = Tables::of(&chain());
+    assert!(is_fit(&fit));
+    for words in [0, WORDS - 1, WORDS + 1] {
+        let mut tables = fit.clone();
+        tables.words.resize(words, 0);
+        assert!(!is_fit(&tables), "{words} numbers");
+    }
+    for bytes in [0, BYTES - 1, BYTES + 1] {
+        let mut tables = fit.clone();
+        tables.queues.resize(bytes, 0);
+        assert!(!is_fit(&tables), "{bytes} bytes");
+    }
+}
+
+/// Numbers that are unfit for the network though not always for the unit.
+#[test]
+fn unfit_numbers() {
+    let fit = Tables::of(&chain());
+    let places = [
+        (0, 2),
+        (0, 4),
+        (UNIT, 4),
+        (UNIT + 1, 2),
+        (3 * UNIT, 3),
+        (WORDS - 1, 1),
+        // The link 0-1 up at one end only: both ends still have their copies.
+        (3, 0),
+    ];
+    for (place, word) in places {
+        let mut tables = fit.clone();
+        tables.words[place] = word;
+        assert!(!is_fit(&tables), "{}: {word}", word_name(place));
+    }
+}
+
+/// Two whole units exchanged: each is fit alone, but not in the other's place.
+#[test]
+fn units_in_each_others_places() {
+    let mut tables = Tables::of(&chain());
+    let (first, rest) = tables.words.split_at_mut(UNIT);
+    first.swap_with_slice(&mut rest[..UNIT]);
+    assert!(!is_fit(&tables));
+}
+
+/// A link that one end has taken down entirely, queues emptied.
+#[test]
+fn a_link_up_at_one_end_only() {
+    let mut network = chain();
+    network.queues.clear_link(0, 1);
+    assert!(is_fit(&Tables::of(&network)));
+    network.units[0].down(1).unwrap();
+    assert!(network.units.iter().all(|unit| unit.is_fit()));
+    assert!(!is_fit(&Tables::of(&network)));
+    network.units[1].down(0).unwrap();
+    assert!(is_fit(&Tables::of(&network)));
+}
+
+#[test]
+fn unfit_queues() {
+    let fit = Tables::of(&chain());
+    const ACKNOWLEDGMENT: &[u8] = &[1, 0, 1, 0];
+    assert_eq!(fit.queues[queue_at(1, 0)..][..4], [1, 1, 2, 1]);
+    type Case = (&'static str, u8, u8, usize, &'static [u8], bool);
+    let cases: [Case; 12] = [
+        ("a message more", 0, 1, 0, ACKNOWLEDGMENT, true),
+        ("free place before it", 0, 1, PLACE, ACKNOWLEDGMENT, false),
+        ("a link that is down", 0, 2, 0, ACKNOWLEDGMENT, false),
+        ("to itself", 0, 0, 0, ACKNOWLEDGMENT, false),
+        ("to no unit", 0, 3, 0, ACKNOWLEDGMENT, false),
+        ("from no unit", 3, 0, 0, &[1, 3, 1, 0], false),
+        ("last byte of all", 15, 15, 255, &[1], false),
+        ("not from its sender", 0, 1, 0, &[1, 1, 1, 0], false),
+        ("against the layout", 0, 1, 0, &[1, 0, 4, 0], false),
+        ("edition 0", 0, 1, 0, &[0, 0, 1, 0], false),
+        ("longer than its place", 0, 1, 0, &[1, 0, 2, 255], false),
+        ("a byte after it", 0, 1, 0, &[1, 0, 1, 0, 1], false),
+    ];
+    for (what, from, to, offset, bytes, expected) in cases {
+        let mut tables = fit.clone();
+        let place = queue_at(from, to) + offset;
+        tables.queues[place..place + bytes.len()].copy_from_slice(bytes);
+        assert_eq!(is_fit(&tables), expected, "{what}");
+    }
+    let mut tables = fit.clone();
+    tables.queues[queue_at(0, 1) + PLACE - 1] = 1;
+    assert!(!is_fit(&tables), "only the last byte of a place");
+}
+
+/// Four messages fill a queue to its last place.
+#[test]
+fn a_full_queue() {
+    let mut tables = Tables::of(&chain());
+    for place in 0..4 {
+        let at = queue_at(0, 1) + place * PLACE;
+        tables.queues[at..at + 4].copy_from_slice(&[1, 0, 1, 0]);
+        assert!(is_fit(&tables), "{place}");
+    }
+}
+
+/// Networks that scripts reach are laid out and read back; with any number or
+/// byte changed they are unfit, or the tables of another fit network.
+#[test]
+fn reached_networks_and_any_damage() {
+    let (mut fit, mut unfit) = (0, 0);
+    for seed in 0..60 {
+        let mut rng = Rng::new(seed);
+        let mut runner = Runner::default();
+        for line in generator::script(seed, Some(120)).split(|&byte| byte == b'\n') {
+            runner.answer(line, &mut io::sink()).unwrap();
+            let Some(network) = runner.network().filter(|_| rng.chance(20)) else {
+                continue;
+            };
+            let mut tables = Tables::of(network);
+            assert_eq!(tables.read().as_ref(), Ok(network));
+            damage(&mut rng, network.count(), &mut tables);
+            *(if is_fit(&tables) {
+                &mut fit
+            } else {
+                &mut unfit
+            }) += 1;
+        }
+    }
+    assert!(fit > 20 && unfit > 500, "{fit} fit, {unfit} unfit");
+}
+
+/// One number or byte changed, most often in a place that is used.
+fn damage(rng: &mut Rng, count: u8, tables: &mut Tables) {
+    let last = u32::from(count) - 1;
+    if rng.chance(50) {
+        let unit = rng.between(0, last) as usize;
+        let place = UNIT * unit + rng.between(0, UNIT as u32 - 1) as usize;
+        tables.words[place] = match rng.between(0, 3) {
+            0 => tables.words[place] ^ 1 << rng.between(0, 31),
+            1 => tables.words[place].wrapping_add(1),
+            _ => rng.between(0, 3) << 16 | rng.between(0, 3),
+        };
+    } else {
+        let (from, to) = (rng.between(0, last), rng.between(0, last));
+        let place = queue_at(from as u8, to as u8) + rng.between(0, 15) as usize;
+        tables.queues[place] ^= 1 << rng.between(0, 7);
+    }
+}

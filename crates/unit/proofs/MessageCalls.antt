@@ -29,7 +29,7 @@ use Rattle.ground.proofs.Filled.{take-filled}
 use Rattle.ground.proofs.Limits.{count-legal}
 use Rattle.ground.proofs.Lists.{parts}
 use Rattle.ground.proofs.Refusal.{gives-none, otherwise-none}
-use Rattle.ground.proofs.Tests.{both, both-of, neither, not-both, and-false, if-true, if-false, equal-or-not}
+use Rattle.ground.proofs.Tests.{both, both-of, neither, not-both, and-false, if-true, if-false}
 use Rattle.rules.proofs.Applied.{applied-filled, changes-nothing-filled, length-applied, noted-shaped}
 use Rattle.rules.proofs.Fit.{fit-unit-shaped}
 use Rattle.rules.proofs.FitUnit.{FitFacts, fit-table-facts}
@@ -47,6 +47,7 @@ use Rattle.unit.proofs.HeldFit.{held-shaped, fit-held}
 use Rattle.unit.proofs.Holding.{holds-back}
 use Rattle.unit.proofs.Noted.{padded-held}
 use Rattle.unit.proofs.Reacting.{reaction-by, noted-me}
+use Rattle.unit.proofs.Refusals.{first-counts, rest-counts, in-a-row}
 
 -- What the reader's answer tells of bytes that are a message: its fields are the message's.
 pub record Taken (n : ℕ) (bytes : List ℕ) (kind sender entries : ℕ) (changes : List ℕ) : Type 0 where
@@ -247,21 +248,8 @@ module _
           pub refused-none : is ≡ true → 0 ≡ contentRefusal u from bytes
           refused-none y = refusal-none u m (waited-for w) not-idle (sym grown-by ∙ sym j ∙ y) ∙ content
 
--- Refusals of a message: those of a link down, then those of its content.
-first-of : (a rest : ℕ) → a ≢ accepted → (a otherwise rest) ≡ a
-first-of a rest d = if-false (eqb a accepted) rest a (ne-eqb a accepted d)
-
-rest-of : (a rest : ℕ) → a ≡ accepted → (a otherwise rest) ≡ rest
-rest-of a rest e = if-true (eqb a accepted) rest a (eq-eqb a accepted e)
-
-regroup : (a b d : ℕ) → (a otherwise (b otherwise d)) ≡ ((a otherwise b) otherwise d)
-regroup a b d =
-    ⊎-elim
-    (λ e. rest-of a _ e ∙ sym (ap (λ (x : ℕ). x otherwise d) (rest-of a b e)))
-    (λ n. first-of a _ n ∙ sym (ap (λ (x : ℕ). x otherwise d) (first-of a b n) ∙ first-of a d n))
-    (equal-or-not a accepted)
-
 module _ (words : List ℕ) (room from : ℕ) (bytes : List ℕ) where
+  -- Refusals of a message: those of a link down, then those of its content.
   message-parts : tableRefusal words room (hubMessage from bytes)
       ≡ (tableRefusal words room (hubDown from) otherwise contentRefusal (unitFrom words) from bytes)
   unfolding tableRefusal hubRefusal
@@ -271,19 +259,19 @@ module _ (words : List ℕ) (room from : ℕ) (bytes : List ℕ) where
       let d = not (isNeighbour (unitFrom words) from) gives 6 in
       let f = tooShort room gives 7 in
       let g = contentRefusal (unitFrom words) from bytes in
-      ap (λ (x : ℕ). a otherwise (b otherwise x)) (regroup d f g)
-      ∙ ap (λ (x : ℕ). a otherwise x) (regroup b (d otherwise f) g)
-      ∙ regroup a (b otherwise (d otherwise f)) g
+      ap (λ (x : ℕ). a otherwise (b otherwise x)) (in-a-row d f g)
+      ∙ ap (λ (x : ℕ). a otherwise x) (in-a-row b (d otherwise f) g)
+      ∙ in-a-row a (b otherwise (d otherwise f)) g
 
   -- The link's refusal is the message's.
   pub link-refused : {number : ℕ} → number ≡ tableRefusal words room (hubDown from) → number ≢ accepted
       → number ≡ tableRefusal words room (hubMessage from bytes)
-  link-refused e d = e ∙ sym (message-parts ∙ first-of _ _ (λ z. d (e ∙ z)))
+  link-refused e d = e ∙ sym (message-parts ∙ first-counts _ _ (λ z. d (e ∙ z)))
 
   -- Where the link has none, the content's is.
   pub content-refused : tableRefusal words room (hubDown from) ≡ accepted
       → contentRefusal (unitFrom words) from bytes ≡ tableRefusal words room (hubMessage from bytes)
-  content-refused e = sym (message-parts ∙ rest-of _ _ e)
+  content-refused e = sym (message-parts ∙ rest-counts _ _ e)
 
 -- What it tells that the link has no refusal.
 pub record Open (words : List ℕ) (room from : ℕ) : Type 0 where

@@ -8,14 +8,18 @@
 ghost use mathlib.Core.Path.{_≡_};
 ghost use Prim.Native.Nat.{_+_, _≤_};
 ghost use lib.ListN.{length};
-ghost use Rattle.rules.specs.Border.{tableBytes, borderAnswer, borderTable, borderBuffer, borderFreshAnswer, borderFreshTable, borderActive, borderDistance, borderFeasible, borderSuccessors};
+ghost use Rattle.rules.specs.Border.{tableBytes, asked, borderAnswer, borderTable, borderBuffer, borderFreshAnswer, borderFreshTable, borderActive, borderDistance, borderFeasible, borderSuccessors};
 ghost use Rattle.rules.specs.Hub.{hubUp, hubCost, hubDown, hubMessage};
 ghost use Rattle.rules.specs.Tables.{bytesOf, wordsOf};
+ghost use Rattle.state.specs.Asked.{askedOf};
+ghost use Rattle.unit.specs.Calls.{callOf};
 ghost use Rattle.firmware.specs.Words.{wordAt};
 use ground::UNIT_WORDS;
 use ground::UNITS;
+use state::questions;
+use state::questions::Question;
 use unit::calls;
-use unit::questions;
+use unit::calls::Call;
 
 // The bytes of a unit's table.
 const TABLE_BYTES: usize = 4 * UNIT_WORDS;
@@ -88,19 +92,29 @@ pub extern "C" fn hub_fresh(count: u32, me: u32, table: &mut [u8]) -> u32
     answer
 }
 
+// A call over the bytes of a table: the call over its numbers, laid back.
+fn answer(table: &mut [u8], call: Call, bytes: &[u8], out: &mut [u8]) -> u32
+    ensures answer { λ r. ⌜ r ≡ borderAnswer (now (table .entry)) (length (now (out .entry))) (callOf call (now (bytes .entry))) ⌝ }
+    ensures table { λ r. ⌜ now (table .exit) ≡ borderTable (now (table .entry)) (length (now (out .entry))) (callOf call (now (bytes .entry))) ⌝ }
+    ensures sent { λ r. ⌜ now (out .exit) ≡ borderBuffer (now (table .entry)) (now (out .entry)) (callOf call (now (bytes .entry))) ⌝ }
+{
+    if table.len() != TABLE_BYTES {
+        return 2;
+    }
+    let mut numbers = words(table);
+    let answer = calls::answer(&mut numbers, call, bytes, out);
+    put_words(table, numbers);
+    answer
+}
+
 #[no_mangle]
 pub extern "C" fn hub_up(table: &mut [u8], to: u32, cost: u32, out: &mut [u8]) -> u32
     ensures answer { λ r. ⌜ r ≡ borderAnswer (now (table .entry)) (length (now (out .entry))) (hubUp to cost) ⌝ }
     ensures table { λ r. ⌜ now (table .exit) ≡ borderTable (now (table .entry)) (length (now (out .entry))) (hubUp to cost) ⌝ }
     ensures sent { λ r. ⌜ now (out .exit) ≡ borderBuffer (now (table .entry)) (now (out .entry)) (hubUp to cost) ⌝ }
 {
-    if table.len() != TABLE_BYTES {
-        return 2;
-    }
-    let mut numbers = words(table);
-    let answer = calls::up(&mut numbers, to, cost, out);
-    put_words(table, numbers);
-    answer
+    let none = [0u8; 1];
+    answer(table, Call::Up { to, cost }, &none, out)
 }
 
 #[no_mangle]
@@ -109,13 +123,8 @@ pub extern "C" fn hub_cost(table: &mut [u8], to: u32, cost: u32, out: &mut [u8])
     ensures table { λ r. ⌜ now (table .exit) ≡ borderTable (now (table .entry)) (length (now (out .entry))) (hubCost to cost) ⌝ }
     ensures sent { λ r. ⌜ now (out .exit) ≡ borderBuffer (now (table .entry)) (now (out .entry)) (hubCost to cost) ⌝ }
 {
-    if table.len() != TABLE_BYTES {
-        return 2;
-    }
-    let mut numbers = words(table);
-    let answer = calls::cost(&mut numbers, to, cost, out);
-    put_words(table, numbers);
-    answer
+    let none = [0u8; 1];
+    answer(table, Call::Cost { to, cost }, &none, out)
 }
 
 #[no_mangle]
@@ -124,13 +133,8 @@ pub extern "C" fn hub_down(table: &mut [u8], to: u32, out: &mut [u8]) -> u32
     ensures table { λ r. ⌜ now (table .exit) ≡ borderTable (now (table .entry)) (length (now (out .entry))) (hubDown to) ⌝ }
     ensures sent { λ r. ⌜ now (out .exit) ≡ borderBuffer (now (table .entry)) (now (out .entry)) (hubDown to) ⌝ }
 {
-    if table.len() != TABLE_BYTES {
-        return 2;
-    }
-    let mut numbers = words(table);
-    let answer = calls::down(&mut numbers, to, out);
-    put_words(table, numbers);
-    answer
+    let none = [0u8; 1];
+    answer(table, Call::Down { to }, &none, out)
 }
 
 #[no_mangle]
@@ -139,13 +143,7 @@ pub extern "C" fn hub_message(table: &mut [u8], from: u32, bytes: &[u8], out: &m
     ensures table { λ r. ⌜ now (table .exit) ≡ borderTable (now (table .entry)) (length (now (out .entry))) (hubMessage from (now (bytes .entry))) ⌝ }
     ensures sent { λ r. ⌜ now (out .exit) ≡ borderBuffer (now (table .entry)) (now (out .entry)) (hubMessage from (now (bytes .entry))) ⌝ }
 {
-    if table.len() != TABLE_BYTES {
-        return 2;
-    }
-    let mut numbers = words(table);
-    let answer = calls::message(&mut numbers, from, bytes, out);
-    put_words(table, numbers);
-    answer
+    answer(table, Call::Message { from }, bytes, out)
 }
 
 #[no_mangle]
@@ -159,35 +157,34 @@ pub extern "C" fn hub_active(table: &[u8]) -> u32
     questions::active(&numbers)
 }
 
-#[no_mangle]
-pub extern "C" fn hub_distance(table: &[u8], to: u32) -> u32
-    ensures { λ r. ⌜ r ≡ borderDistance (now (table .entry)) to ⌝ }
+// A question over the bytes of a table.
+fn ask(table: &[u8], question: Question, to: u32) -> u32
+    ensures { λ r. ⌜ r ≡ asked (now (table .entry)) (λ words. askedOf question words to) ⌝ }
 {
     if table.len() != TABLE_BYTES {
         return 2;
     }
     let numbers = words(table);
-    questions::distance(&numbers, to)
+    questions::ask(&numbers, question, to)
+}
+
+#[no_mangle]
+pub extern "C" fn hub_distance(table: &[u8], to: u32) -> u32
+    ensures { λ r. ⌜ r ≡ borderDistance (now (table .entry)) to ⌝ }
+{
+    ask(table, Question::Distance, to)
 }
 
 #[no_mangle]
 pub extern "C" fn hub_feasible(table: &[u8], to: u32) -> u32
     ensures { λ r. ⌜ r ≡ borderFeasible (now (table .entry)) to ⌝ }
 {
-    if table.len() != TABLE_BYTES {
-        return 2;
-    }
-    let numbers = words(table);
-    questions::feasible(&numbers, to)
+    ask(table, Question::Feasible, to)
 }
 
 #[no_mangle]
 pub extern "C" fn hub_successors(table: &[u8], to: u32) -> u32
     ensures { λ r. ⌜ r ≡ borderSuccessors (now (table .entry)) to ⌝ }
 {
-    if table.len() != TABLE_BYTES {
-        return 2;
-    }
-    let numbers = words(table);
-    questions::successors(&numbers, to)
+    ask(table, Question::Successors, to)
 }

@@ -17,6 +17,14 @@ highestCost = 65535
 abbrev pub legalCost : ℕ → Bool
 legalCost c = leb 1 c && leb c highestCost
 
+-- A head and a cost in one number: the head counts entryBase, one more than the highest cost. A unit and such an entry in
+-- one number: the unit counts changeBase, a byte for the head and two for the cost.
+abbrev pub entryBase : ℕ
+entryBase = 65536
+
+abbrev pub changeBase : ℕ
+changeBase = 16777216
+
 -- "A distance is unreachable, above all numbers": the largest number that a table's word holds.
 abbrev pub far : ℕ
 far = 4294967295

@@ -3,10 +3,10 @@
 use Prim.Native.Nat.{ℕ, zero, suc, _+_, _-_, _/_, _%_, _^_, min}
 use mathlib.Core.Bool.{Bool, true, false, _&&_, _||_}
 use mathlib.Core.List.{List, [], _∷_, _++_, map}
-use lib.Dec.{eqb, ltb}
-use lib.ListN.{length, getD, replicate}
+use lib.Dec.{eqb, ltb, leb}
+use lib.ListN.{length, getD, replicate, take, drop}
 use Rattle.ground.specs.Choice.{if_then_else_}
-use Rattle.ground.specs.Limits.{far}
+use Rattle.ground.specs.Limits.{far, unitLimit}
 
 -- What a row holds for a unit; 0 past its end.
 abbrev pub at : List ℕ → ℕ → ℕ
@@ -67,6 +67,14 @@ joined (xs ∷ rest) = xs ++ joined rest
 abbrev pub filled : ℕ → List ℕ → List ℕ
 filled m xs = xs ++ zeros (m - length xs)
 
+-- What is worked out for the units below n: nothing where n is above the limit.
+abbrev pub counted {ℓ} : {A : Type ℓ} → (n : ℕ) → List A → List A
+counted n xs = if leb n unitLimit then xs else []
+
 -- Rows filled up with zeros to m places, and with rows of zeros to m rows.
 abbrev pub filledRows : ℕ → List (List ℕ) → List (List ℕ)
 filledRows m rows = map (filled m) rows ++ replicate (m - length rows) (zeros m)
+
+-- Bytes laid into a buffer from a place on; the others stay.
+abbrev pub laidAfter : (used : ℕ) (bytes buffer : List ℕ) → List ℕ
+laidAfter used bytes buffer = take used buffer ++ bytes ++ drop (used + length bytes) buffer

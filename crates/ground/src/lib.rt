@@ -1,6 +1,9 @@
 // The product's limits in code. specs/Limits.antt names the same numbers for the definitions; a function's proof relies on
 // both, and fails where they differ.
 
+ghost use mathlib.Core.Path.{_≡_};
+ghost use Rattle.ground.specs.Limits.{legalCost};
+
 // The most units that a network has.
 pub const UNITS: usize = 16;
 
@@ -21,8 +24,13 @@ pub const LONGEST: u32 = (ENTRIES as u32) * HIGHEST_COST;
 // The distance of what can't be reached, above all others.
 pub const FAR: u32 = 4294967295;
 
+// What a head counts in an entry, and a unit in a change.
+pub const ENTRY_BASE: u32 = HIGHEST_COST + 1;
+
+pub const CHANGE_BASE: u32 = 256 * ENTRY_BASE;
+
 // The body of a change that removes an entry: head 255 and cost 0.
-pub const REMOVED: u32 = 255 * 65536;
+pub const REMOVED: u32 = 255 * ENTRY_BASE;
 
 // The numbers in all copies of a unit, and in its whole table.
 pub const COPIES: usize = UNITS * UNITS;
@@ -40,3 +48,13 @@ pub const NETWORK_BYTES: usize = UNITS * SENDER_BYTES;
 
 // The numbers in the tables of all units.
 pub const NETWORK_WORDS: usize = UNITS * UNIT_WORDS;
+
+// Whether a number is a link's cost.
+pub fn is_legal_cost(cost: u32) -> bool
+    ensures { λ r. ⌜ r ≡ legalCost cost ⌝ }
+{
+    if cost < 1 {
+        return false;
+    }
+    cost <= HIGHEST_COST
+}

@@ -4,7 +4,8 @@
 --
 -- `reachedTables words bytes n calls` are the tables that the calls leave, by the contracts, of the fresh ones of n units
 -- in any lent `words` and `bytes` of their fixed lengths; the calls are any finite list, and any part of a list is a
--- list. `Follows` is any path along successors for a destination. The tracer's path is one of these.
+-- list. `Follows` is any path along successors for a destination. The tracer's path is one of these. All this is so too
+-- of the tables that calls leave of any that hold a network which meets the conditions (`startTables`).
 use Prim.Native.Nat.{ℕ, _-_, _≤_, _<_}
 use mathlib.Core.Bool.{true}
 use mathlib.Core.List.{List}
@@ -13,15 +14,21 @@ use mathlib.Core.Path.{_≡_}
 use lib.ListN.{length}
 use Rattle.ground.specs.Limits.{legalCount}
 use Rattle.ground.specs.Rows.{at}
-use Rattle.rules.specs.Network.{Network, Call, unitAt}
+use Rattle.rules.specs.Network.{Network, Call, unitAt, isSuccessorIn}
 use Rattle.rules.specs.Tables.{networkWords, networkBytes}
 use Rattle.rules.specs.Tracer.{circling, trace, hops}
-use Rattle.rules.specs.Unit.{isSuccessor}
 use Rattle.loopfree.specs.Reached.{reached, Follows}
-use Rattle.lasting.specs.ReachedTables.{reachedTables, networkOf}
+use Rattle.lasting.specs.ReachedTables.{Tables, runTables, reachedTables, networkOf, startTables}
 use Rattle.ground.proofs.Pigeonhole.{Distinct}
 use Rattle.loopfree.proofs.NoCircle as NoCircle
-use Rattle.lasting.proofs.TablesReached.{tables-hold}
+use Rattle.loopfree.proofs.NoCircle.{LoopFree, loop-free}
+use Rattle.lasting.proofs.TablesReached.{tables-start, start-tables-hold, tables-hold}
+
+-- From any tables that calls may start from.
+pub tables-loop-free : (t : Tables) → startTables t ≡ true → (calls : List Call) (destination : ℕ)
+    → LoopFree (networkOf t .count) (networkOf (runTables t calls)) destination
+tables-loop-free t s calls destination =
+    rw (start-tables-hold t s calls) (loop-free (networkOf t) (tables-start t s) calls destination)
 
 -- "From the fresh network, after any sequence of link events, cost changes and deliveries, refused ones included, stopped
 -- at any point"
@@ -36,7 +43,7 @@ module _ (words bytes : List ℕ) (long : length words ≡ networkWords) (wide :
   same = tables-hold words bytes long wide n legal calls
 
   -- "feasible distances fall at each hop"
-  pub feasible-falls : (i k : ℕ) → isSuccessor (unitAt network i) destination k ≡ true
+  pub feasible-falls : (i k : ℕ) → isSuccessorIn network i destination k ≡ true
       → at (unitAt network k .feasible) destination < at (unitAt network i .feasible) destination
   feasible-falls = rw same (NoCircle.feasible-falls n legal calls destination)
 

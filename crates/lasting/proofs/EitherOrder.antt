@@ -10,7 +10,7 @@ use Rattle.rules.specs.Event.{Event, linkUp, linkDown, Reaction, reaction}
 use Rattle.rules.specs.Message.{Message}
 use Rattle.rules.specs.Network.{Network, up, down, unitAt, queue, withQueue, reacted, happens, outcome}
 use Rattle.rules.specs.Unit.{Unit}
-use Rattle.loopfree.proofs.Shape.{unit-elsewhere, emptied}
+use Rattle.steps.proofs.NetworkLists.{unit-elsewhere, emptied}
 
 module _ (net : Network) (a b : ℕ) (d : a ≢ b) where
   -- The other way round they differ too.

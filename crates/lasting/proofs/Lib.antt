@@ -3,10 +3,7 @@
 pub mod Demand
 pub mod EitherOrder
 pub mod NeverRefused
-pub mod Orderly
 pub mod ReachedFit
-pub mod Sending
-pub mod Shaped
 pub mod ShortQueues
 pub mod StaysFit
 pub mod TablesReached

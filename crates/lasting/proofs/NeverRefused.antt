@@ -18,20 +18,16 @@ use Rattle.rules.specs.Network.{Network, Call, up, cost, down, deliver, unitAt,
 use Rattle.rules.specs.Network.{fresh, outcome, badEnds, overflows, refusalOf, callRefusal}
 use Rattle.rules.specs.NetworkTable.{networkRefusal}
 use Rattle.rules.specs.Tables.{networkWords, networkBytes}
-use Rattle.lasting.specs.ReachedTables.{reachedTables}
-use Rattle.loopfree.specs.Reached.{reached}
-use Rattle.rules.proofs.Fit.{FitNetwork, fit-network-of}
-use Rattle.rules.proofs.Laid.{ShapedNetwork}
-use Rattle.loopfree.proofs.Accepted.{Ends, good-ends}
-use Rattle.loopfree.proofs.Invariant.{Holds, Any}
-use Rattle.loopfree.proofs.Kept.{reached-holds}
+use Rattle.lasting.specs.ReachedTables.{Tables, runTables, reachedTables, networkOf, startTables}
+use Rattle.loopfree.specs.Reached.{run, reached}
+use Rattle.steps.proofs.AcceptedCalls.{Ends, good-ends}
 use Rattle.loopfree.proofs.Unrefused.{message-accepted}
-use Rattle.lasting.proofs.ReachedFit.{reached-fit, reached-shaped}
+use Rattle.lasting.proofs.ReachedFit.{Kept, start-kept, run-kept, reached-kept}
 use Rattle.lasting.proofs.ShortQueues.{outcome-never-over}
-use Rattle.lasting.proofs.TablesReached.{tables-refusal}
+use Rattle.lasting.proofs.TablesReached.{tables-start, start-tables-refusal, tables-refusal}
 
 -- A refusal that is none of 2 and 10 to 13.
-abbrev Usual : ℕ → Type 0
+abbrev pub Usual : ℕ → Type 0
 Usual r = (r ≢ 2) × (r ≢ 10) × (r ≢ 11) × (r ≢ 12) × (r ≢ 13)
 
 -- One that is given by a test and whose number is one above k, or else another.
@@ -39,23 +35,22 @@ usual-first : (t : Bool) (k rest : ℕ) → Usual (suc k) → (t ≡ false → U
 usual-first true k rest u v = rw (ne-eqb (suc k) accepted (omega arith)) u
 usual-first false k rest u v = v refl
 
-module _ (n : ℕ) (net : Network) (holds : Holds n Any net) (f : FitNetwork net) (s : ShapedNetwork net) where
+module _ (net : Network) (kept : Kept net) where
   -- A delivery's, once its ends and its link are in order.
-  usual-message : (a b : ℕ) → Ends n a b → (messages : List Message) → queue net a b ≡ messages → (rest : ℕ)
+  usual-message : (a b : ℕ) → Ends (net .count) a b → (messages : List Message) → queue net a b ≡ messages → (rest : ℕ)
       → (eqb (length messages) 0 ≡ false → messageRefusal (unitAt net b) (nextMessage messages) ≡ accepted → Usual rest)
       → Usual
       (eqb (length messages) 0 gives 8 otherwise messageRefusal (unitAt net b) (nextMessage messages) otherwise rest)
   usual-message a b t [] q rest u = omega arith
   usual-message a b t (m ∷ ms) q rest u =
       let taken : messageRefusal (unitAt net b) m ≡ accepted =
-      message-accepted n (omega (arith, holds .shape .counted, f .high)) net holds a b (t .first) (t .second) (t .differ) m
-      ms q in
+      message-accepted (net .count) net (kept .holds) a b (t .first) (t .second) (t .differ) m ms q in
       let some : eqb (length (m ∷ ms)) 0 ≡ false = ne-eqb (length (m ∷ ms)) 0 (omega arith) in
       rw (some, taken) (u some taken)
 
   -- The last: where a result without units, whose queues cannot pass 4, is not refused, the outcome is not refused with 13.
   usual-last : (call : Call) → refusalOf net call (fresh 0) ≡ accepted → Usual (overflows (outcome net call) gives 13)
-  usual-last call e = rw (outcome-never-over n net holds f s call (fresh 0) e) (omega arith)
+  usual-last call e = rw (outcome-never-over net kept call (fresh 0) e) (omega arith)
 
   -- Every call's.
   usual-call : (call : Call) → Usual (callRefusal net call)
@@ -77,9 +72,18 @@ module _ (n : ℕ) (net : Network) (holds : Holds n Any net) (f : FitNetwork net
   usual-call (deliver a b) =
       usual-first (badEnds (net .count) a b) 2 _ (omega arith) (λ ends.
       usual-first (not (isUp net a b)) 5 _ (omega arith) (λ opened.
-      usual-message a b (rw (holds .shape .counted) at (good-ends (net .count) a b ends)) (queue net a b) refl _
+      usual-message a b (good-ends (net .count) a b ends) (queue net a b) refl _
       (λ some taken. usual-last (deliver a b) (rw (ends, opened, some, taken)))))
 
+-- A call over tables that calls reach from any that they may start from is refused with none of 2 and 10 to 13.
+pub start-usual : (t : Tables) → startTables t ≡ true → (calls : List Call) (call : Call)
+    → Usual (networkRefusal (runTables t calls .words) (runTables t calls .bytes) call)
+start-usual t s calls call =
+    rw (start-tables-refusal t s calls call)
+    (usual-call (run (networkOf t) calls)
+    (run-kept (networkOf t) (start-kept (networkOf t) (tables-start t s)) calls) call)
+
+-- From fresh tables.
 module _ (words bytes : List ℕ) (long : length words ≡ networkWords) (wide : length bytes ≡ networkBytes) (n : ℕ)
     (legal : legalCount n ≡ true) (calls : List Call) (call : Call) where
   -- The refusal of a call over tables that calls reach.
@@ -90,8 +94,7 @@ module _ (words bytes : List ℕ) (long : length words ≡ networkWords) (wide :
   usual-then : Usual refusalThen
   usual-then =
       rw (tables-refusal words bytes long wide n legal calls call)
-      (usual-call n (reached n calls) (reached-holds n legal calls)
-      (fit-network-of (reached n calls) (reached-fit n legal calls)) (reached-shaped n legal calls) call)
+      (usual-call (reached n calls) (reached-kept n legal calls) call)
 
   -- 2: "tables unfit".
   pub never-unfit : refusalThen ≢ 2

@@ -1,60 +1,40 @@
--- Every network that calls reach from a fresh one of 2 to 16 units is fit and shaped.
-use Prim.Native.Nat.{ℕ, _≤_, _<_}
+-- Every network that calls reach, from the fresh one of a legal count or from any that meets the conditions, is fit and
+-- shaped, and meets the conditions again: "Every network reached by calls meets these conditions."
+use Prim.Native.Nat.{ℕ, _≤_}
 use native.Mathlib.Omega.{arith}
 use mathlib.Core.Bool.{true}
 use mathlib.Core.List.{List, [], _∷_}
-use mathlib.Core.Logic.{inl}
-use mathlib.Core.Path.{_≡_, refl, sym, ap, _∙_}
-use borrow.Author.Tests.{eqb-true, leb-true, eq-eqb, ne-eqb}
+use mathlib.Core.Path.{_≡_, sym, ap, subst, _∙_}
+use borrow.Author.Tests.{eqb-true, leb-true}
 use lib.Dec.{eqb, leb}
-use Rattle.ground.specs.Choice.{if_then_else_}
-use Rattle.ground.specs.Limits.{unitLimit, far, legalCount}
+use Rattle.ground.specs.Limits.{unitLimit, legalCount}
 use Rattle.ground.specs.Refusal.{accepted}
-use Rattle.rules.specs.Network.{Network, Call, fresh, callRefusal, stepTo, step, fitNetwork}
-use Rattle.rules.specs.Unit.{freshUnit, fitUnit}
+use Rattle.rules.specs.Network.{Network, Call, fresh, outcome, callRefusal, stepTo, step, fitNetwork}
+use Rattle.rules.specs.Unit.{freshUnit}
+use Rattle.loopfree.specs.Conditions.{isStart}
 use Rattle.loopfree.specs.Reached.{run, reached}
+use Rattle.loopfree.proofs.Conditions.{start-fit, start-shaped, start-holds, holds-start}
+use Rattle.loopfree.proofs.Invariant.{Holds, Any}
+use Rattle.loopfree.proofs.Kept.{keeps-call, fresh-holds}
 use Rattle.ground.proofs.Each.{none}
-use Rattle.ground.proofs.Lists.{at-zeros}
-use Rattle.ground.proofs.Rows.{tab-at}
 use Rattle.ground.proofs.Tests.{both}
-use Rattle.tree.proofs.Rooted.{zeros-tree}
 use Rattle.rules.proofs.Fit.{FitNetwork, fit-network-of}
-use Rattle.rules.proofs.FitUnit.{facts-fit}
 use Rattle.rules.proofs.Laid.{ShapedNetwork}
-use Rattle.unit.proofs.Fresh.{fresh-shaped}
-use Rattle.loopfree.proofs.Cases.{by-test}
-use Rattle.loopfree.proofs.Kept.{fresh-shape, fresh-unit, fresh-queue, fresh-copy, fresh-down}
-use Rattle.lasting.proofs.Orderly.{Orderly}
-use Rattle.lasting.proofs.Shaped.{Roomy, orderly-shaped, outcome-shaped}
+use Rattle.steps.proofs.Cases.{by-test}
+use Rattle.steps.proofs.Fresh.{fresh-shaped, fresh-fit, fresh-shape, fresh-unit, fresh-queue, fresh-down}
+use Rattle.steps.proofs.OrderlyNetwork.{Orderly}
+use Rattle.steps.proofs.OrderlyCalls.{Roomy, orderly-shaped, outcome-shaped}
 use Rattle.lasting.proofs.StaysFit.{orderly-fit, outcome-fit}
 
--- A fresh unit is fit.
-fresh-fit : (n me : ℕ) → 2 ≤ n → n ≤ unitLimit → me < n → fitUnit (freshUnit n me) ≡ true
-unfolding freshUnit
-fresh-fit n me low high below =
-    facts-fit (freshUnit n me)
-    (record {
-      low = low;
-      high = high;
-      me = below;
-      cost = λ k l. rw (at-zeros n k) (omega arith);
-      own-cost = at-zeros n me;
-      wait = λ k l. rw (at-zeros n k) (omega arith);
-      wait-down = λ k l z. at-zeros n k;
-      copy-down = λ k l z. fresh-copy n me k l;
-      copy-up = λ k l d. absurd (d (at-zeros n k));
-      tree = zeros-tree n me;
-      own-feasible = tab-at n first me 0 below ∙ rw (eq-eqb me me refl);
-      feasible = λ j l d. inl (tab-at n first j 0 l ∙ rw (ne-eqb j me d));
-    })
-  where
-    first : ℕ → ℕ
-    first j = if eqb j me then 0 else far
-
--- What every network that is reached is.
+-- What every network that is reached is: fit and shaped, and the invariant holds of it.
 pub record Kept (net : Network) : Type 0 where
   pub fit : fitNetwork net ≡ true
   pub shaped : ShapedNetwork net
+  pub holds : Holds (net .count) Any net
+
+-- A start is.
+pub start-kept : (net : Network) → isStart net ≡ true → Kept net
+start-kept net s = record { fit = start-fit net s; shaped = start-shaped net s; holds = start-holds net s }
 
 -- The fresh network is.
 pub fresh-kept : (n : ℕ) → legalCount n ≡ true → Kept (fresh n)
@@ -65,6 +45,7 @@ fresh-kept n legal =
           (λ x y hx hy. rw (fresh-unit n x hx, fresh-unit n y hy) (fresh-down n x y ∙ sym (fresh-down n y x)))
           roomy;
       shaped = orderly-shaped (fresh n) orderly roomy;
+      holds = fresh-holds n;
     }
   where
     low : 2 ≤ n
@@ -98,24 +79,44 @@ step-kept net kept call =
     (λ t.
     let taken : callRefusal net call ≡ accepted = eqb-true (callRefusal net call) accepted t in
     let f : FitNetwork net = fit-network-of net (kept .fit) in
+    let holds : Holds (net .count) Any (outcome net call) =
+    keeps-call (net .count) (f .high) net (kept .holds) call (outcome net call) taken in
     rw t
     (record {
       fit = outcome-fit net f (kept .shaped) call taken;
       shaped = outcome-shaped net f (kept .shaped) call taken;
+      holds = subst (λ (n : ℕ). Holds n Any (outcome net call)) (sym (holds .shape .counted)) holds;
     }))
     (λ t. rw t kept)
 
 -- So do calls one after the other.
-run-kept : (net : Network) → Kept net → (calls : List Call) → Kept (run net calls)
+pub run-kept : (net : Network) → Kept net → (calls : List Call) → Kept (run net calls)
 unfolding run
 run-kept net kept [] = kept
 run-kept net kept (call ∷ rest) = run-kept (step net call) (step-kept net kept call) rest
 
+-- Such a network is a start.
+kept-start : (net : Network) → Kept net → isStart net ≡ true
+kept-start net kept = holds-start net (kept .fit) (kept .shaped) (kept .holds)
+
+-- From any start: the network that calls reach is one.
+pub start-again : (start : Network) → isStart start ≡ true → (calls : List Call) → isStart (run start calls) ≡ true
+start-again start s calls = kept-start (run start calls) (run-kept start (start-kept start s) calls)
+
+-- From the fresh network.
 module _ (n : ℕ) (legal : legalCount n ≡ true) (calls : List Call) where
-  -- Every network that calls reach is fit.
+  -- What every network that calls reach is.
+  pub reached-kept : Kept (reached n calls)
+  reached-kept = run-kept (fresh n) (fresh-kept n legal) calls
+
+  -- It is fit.
   pub reached-fit : fitNetwork (reached n calls) ≡ true
-  reached-fit = run-kept (fresh n) (fresh-kept n legal) calls .fit
+  reached-fit = reached-kept .fit
 
   -- It is shaped.
   pub reached-shaped : ShapedNetwork (reached n calls)
-  reached-shaped = run-kept (fresh n) (fresh-kept n legal) calls .shaped
+  reached-shaped = reached-kept .shaped
+
+  -- It is a start.
+  pub reached-start : isStart (reached n calls) ≡ true
+  reached-start = kept-start (reached n calls) reached-kept

@@ -13,22 +13,22 @@ use Rattle.ground.specs.Refusal.{accepted}
 use Rattle.ground.specs.Rows.{some}
 use Rattle.rules.specs.Message.{Message, update, holdsUpdate, holdsAcknowledgment, legalMessage}
 use Rattle.rules.specs.Network.{Network, Call, queue, isUp, outcome, overflows, refusalOf, fitQueued}
-use Rattle.loopfree.specs.Reached.{reached}
+use Rattle.loopfree.specs.Conditions.{countIn, updatesIn, acknowledgmentsIn, isStart}
+use Rattle.loopfree.specs.Reached.{run, reached}
 use Rattle.ground.proofs.Each.{none, one}
 use Rattle.ground.proofs.Lists.{parts}
 use Rattle.ground.proofs.Rows.{some-at}
 use Rattle.ground.proofs.Tests.{not-yes}
 use Rattle.rules.proofs.Fit.{FitNetwork, fit-network-of}
-use Rattle.rules.proofs.Laid.{ShapedNetwork}
-use Rattle.loopfree.proofs.Cases.{by-test, by-equal}
-use Rattle.loopfree.proofs.Exchange.{oneIf, one-of, countIn, updatesIn, acksIn}
+use Rattle.steps.proofs.Cases.{by-test, by-equal}
+use Rattle.loopfree.proofs.Exchange.{oneIf, one-of}
 use Rattle.loopfree.proofs.Invariant.{Holds, Any, LineOf}
 use Rattle.loopfree.proofs.Kept.{keeps-call, reached-holds}
 use Rattle.loopfree.proofs.Sound.{Home}
-use Rattle.lasting.proofs.Orderly.{Orderly}
-use Rattle.lasting.proofs.ReachedFit.{reached-fit, reached-shaped}
-use Rattle.lasting.proofs.Sending.{Proper}
-use Rattle.lasting.proofs.Shaped.{orderly-of, outcome-orderly}
+use Rattle.steps.proofs.OrderlyNetwork.{Orderly}
+use Rattle.lasting.proofs.ReachedFit.{Kept, start-kept, run-kept, reached-kept}
+use Rattle.steps.proofs.SentMessages.{Proper}
+use Rattle.steps.proofs.OrderlyCalls.{orderly-of, outcome-orderly}
 
 -- "Byte 2: 1 acknowledgment, 2 update, 3 both": a legal message holds one of the two.
 holds-one : (n a : ℕ) (m : Message) → fitQueued n a m ≡ true → 1 ≤ oneIf (holdsUpdate m) + oneIf (holdsAcknowledgment m)
@@ -42,7 +42,7 @@ holds-one n a m e =
     omega (arith, one-of (holdsAcknowledgment m) (eq-eqb (m .kind % 2) 1 (omega arith))))
 
 -- So proper messages are at most as many as the updates and the acknowledgments in them.
-proper-few : (n a : ℕ) {ms : List Message} → Proper n a ms → length ms ≤ updatesIn ms + acksIn ms
+proper-few : (n a : ℕ) {ms : List Message} → Proper n a ms → length ms ≤ updatesIn ms + acknowledgmentsIn ms
 unfolding countIn
 proper-few n a none = omega arith
 proper-few n a (one {x = m} p ps) = omega (arith, holds-one n a m p, proper-few n a ps)
@@ -89,17 +89,25 @@ module _ (n : ℕ) (net : Network) (holds : Holds n Any net) (o : Orderly net) w
       ))
 
 -- None passes 4 in the outcome of a call that would not be refused on some result, be it another.
-pub outcome-never-over : (n : ℕ) (net : Network) → Holds n Any net → FitNetwork net → ShapedNetwork net → (call : Call)
-    (result : Network) → refusalOf net call result ≡ accepted → overflows (outcome net call) ≡ false
-outcome-never-over n net holds f s call result e =
-    never-over n (outcome net call)
-    (keeps-call n (omega (arith, holds .shape .counted, f .high)) net holds call result e)
-    (outcome-orderly net f s call result e)
+pub outcome-never-over : (net : Network) → Kept net → (call : Call) (result : Network)
+    → refusalOf net call result ≡ accepted → overflows (outcome net call) ≡ false
+outcome-never-over net kept call result e =
+    let f : FitNetwork net = fit-network-of net (kept .fit) in
+    never-over (net .count) (outcome net call) (keeps-call (net .count) (f .high) net (kept .holds) call result e)
+    (outcome-orderly net f (kept .shaped) call result e)
 
--- Each queue of a network that calls reach holds at most 2 messages.
+-- Each queue of a network that is kept holds at most 2 messages.
+kept-few : (net : Network) → Kept net → (a b : ℕ) → a < net .count → b < net .count → length (queue net a b) ≤ 2
+kept-few net kept =
+    two-queued (net .count) net (kept .holds) (orderly-of net (fit-network-of net (kept .fit)) (kept .shaped))
+
+-- So does each of a network that calls reach from a start.
+pub start-few-queued : (start : Network) → isStart start ≡ true → (calls : List Call) (a b : ℕ)
+    → a < run start calls .count → b < run start calls .count → length (queue (run start calls) a b) ≤ 2
+start-few-queued start s calls = kept-few (run start calls) (run-kept start (start-kept start s) calls)
+
+-- And from the fresh network.
 pub few-queued : (n : ℕ) → legalCount n ≡ true → (calls : List Call) (a b : ℕ) → a < n → b < n
     → length (queue (reached n calls) a b) ≤ 2
 few-queued n legal calls =
-    two-queued n (reached n calls) (reached-holds n legal calls)
-    (orderly-of (reached n calls) (fit-network-of (reached n calls) (reached-fit n legal calls))
-    (reached-shaped n legal calls))
+    rw (reached-holds n legal calls .shape .counted) at (kept-few (reached n calls) (reached-kept n legal calls))

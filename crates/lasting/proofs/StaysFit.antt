@@ -22,15 +22,15 @@ use Rattle.ground.proofs.Rows.{every-of}
 use Rattle.ground.proofs.Tests.{both-of, either-left, either-right}
 use Rattle.rules.proofs.Fit.{FitNetwork}
 use Rattle.rules.proofs.Laid.{noMessage, ShapedNetwork}
-use Rattle.loopfree.proofs.Accepted.{Ends, AcceptedUp, AcceptedCost, AcceptedDelivery}
-use Rattle.loopfree.proofs.Accepted.{accepted-up, accepted-cost, accepted-down, accepted-delivery}
-use Rattle.loopfree.proofs.Calls.{end-set}
-use Rattle.loopfree.proofs.Cases.{by-test, by-equal}
+use Rattle.steps.proofs.AcceptedCalls.{Ends, AcceptedUp, AcceptedCost, AcceptedDelivery}
+use Rattle.steps.proofs.AcceptedCalls.{accepted-up, accepted-cost, accepted-down, accepted-delivery}
+use Rattle.steps.proofs.LinkEnds.{end-set}
+use Rattle.steps.proofs.Cases.{by-test, by-equal}
 use Rattle.loopfree.proofs.Invariant.{by-direction}
-use Rattle.loopfree.proofs.Shape.{emptied}
-use Rattle.lasting.proofs.Orderly.{Orderly, end-here, end-other}
-use Rattle.lasting.proofs.Shaped.{turned, orderly-of, orderly-up, emptied-orderly, first-down, first-taken}
-use Rattle.lasting.proofs.Shaped.{Roomy, outcome-orderly, outcome-room}
+use Rattle.steps.proofs.NetworkLists.{emptied}
+use Rattle.steps.proofs.OrderlyNetwork.{Orderly, end-here, end-other}
+use Rattle.steps.proofs.OrderlyCalls.{turned, orderly-of, orderly-up, emptied-orderly, first-down, first-taken}
+use Rattle.steps.proofs.OrderlyCalls.{Roomy, outcome-orderly, outcome-room}
 
 -- A link is up at both ends or at none.
 abbrev pub Alike : Network → Type 0

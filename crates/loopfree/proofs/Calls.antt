@@ -1,42 +1,38 @@
 -- Every accepted call keeps the invariant, each by the state of its link's two directions after step A.
 use Prim.Native.Nat.{ℕ, _≤_, _<_}
 use native.Mathlib.Omega.{arith}
-use mathlib.Core.Bool.{Bool, true, false, not, _&&_, true≢false, and-true}
+use mathlib.Core.Bool.{true, false, not, true≢false}
 use mathlib.Core.List.{List, [], _∷_}
 use mathlib.Core.Logic.{_≢_}
 use mathlib.Core.Path.{_≡_, refl, sym, ap, _∙_}
 use lib.Dec.{eqb}
 use lib.ListN.{length, getD, set}
 use lib.Seq.{getD-set-same}
-use borrow.Author.Tests.{eq-eqb, ne-eqb}
+use borrow.Author.Tests.{eq-eqb}
 use Rattle.ground.specs.Choice.{if_then_else_}
+use Rattle.ground.specs.Limits.{unitLimit}
 use Rattle.ground.specs.Rows.{at, zeros}
 use Rattle.ground.proofs.Each.{none, each-first, each-rest}
 use Rattle.tree.specs.Recompute.{copyOf}
 use Rattle.tree.specs.Tree.{distance, isTree}
-use Rattle.rules.specs.Event.{received, linkUp, newCost, linkDown, reaction}
+use Rattle.rules.specs.Event.{received, linkUp, newCost, linkDown, owedOf, reaction}
 use Rattle.rules.specs.Message.{Message, holdsUpdate, holdsAcknowledgment, applied}
 use Rattle.rules.specs.Network.{Network, unitAt, queue, isUp, withQueue, happens}
 use Rattle.rules.specs.Unit.{Unit}
-use Rattle.loopfree.proofs.Accepted.{LegalCost}
-use Rattle.loopfree.proofs.Cases.{by-test}
+use Rattle.loopfree.specs.Conditions.{acknowledgmentsIn, heard}
+use Rattle.steps.proofs.AcceptedCalls.{LegalCost}
+use Rattle.steps.proofs.Cases.{by-test}
+use Rattle.steps.proofs.LinkEnds.{end-set, end-up}
+use Rattle.steps.proofs.SentMessages.{not-count}
 use Rattle.loopfree.proofs.Ends.{one-end, two-ends}
 use Rattle.loopfree.proofs.Events.{onReceived, onUp, onCost, onDown, touch-received, touch-up, touch-cost, touch-down}
-use Rattle.loopfree.proofs.Exchange.{oneIf, acksIn, heard, line-back, line-answered, line-heard, line-up, line-down}
+use Rattle.loopfree.proofs.Exchange.{oneIf, line-back, line-answered, line-heard, line-up, line-down}
 use Rattle.loopfree.proofs.Invariant.{LineOf, Holds, Any, Apart, apart-turned, holds-fewer, holds-queue}
 use Rattle.loopfree.proofs.Reaction.{Ready, Reacts, reacts}
 use Rattle.loopfree.proofs.Sent.{From}
-use Rattle.loopfree.proofs.Shape.{queue-here, queue-elsewhere, emptied, emptied-back, emptied-there}
-use Rattle.loopfree.proofs.Sound.{Home, Touch}
+use Rattle.steps.proofs.NetworkLists.{queue-here, queue-elsewhere, emptied, emptied-back, emptied-there}
+use Rattle.loopfree.proofs.Sound.{Home, Touch, having, isOwed}
 use Rattle.loopfree.proofs.Trees.{zeros-furthest}
-
--- An end is as its new cost says.
-pub end-set : (costs : List ℕ) (k c : ℕ) → k < length costs → not (eqb (at (set costs k c) k) 0) ≡ not (eqb c 0)
-end-set costs k c h = rw (getD-set-same costs k c 0 h)
-
--- It is up where that is a legal cost.
-pub end-up : (costs : List ℕ) (k c : ℕ) → k < length costs → LegalCost c → not (eqb (at (set costs k c) k) 0) ≡ true
-end-up costs k c h l = end-set costs k c h ∙ ap not (ne-eqb c 0 (omega arith))
 
 module _ (n a : ℕ) (u : Unit) (home : Home n a u) (b : ℕ) (hb : b < n) where
   -- Unit b is below what a's tables call the count.
@@ -61,11 +57,15 @@ module _ (n a : ℕ) (u : Unit) (home : Home n a u) (b : ℕ) (hb : b < n) where
   not-me : a ≢ b → b ≢ u .me
   not-me d e = d (sym (e ∙ home .named))
 
+-- The count stands for no new neighbour.
+none-new : (n k : ℕ) → k < n → {A : Type 0} → eqb k n ≡ true → A
+none-new n k h w = absurd (true≢false (sym w ∙ not-count n k h))
+
 -- Feasible distances are at most the distances in the own tree, by the network's count and number.
-own-at : (n a : ℕ) (u : Unit) → Home n a u → (j : ℕ) → at (u .feasible) j ≤ distance n a (u .tree) j
+pub own-at : (n a : ℕ) (u : Unit) → Home n a u → (j : ℕ) → at (u .feasible) j ≤ distance n a (u .tree) j
 own-at n a u home j = rw (home .counted, home .named) at (home .sound .own j)
 
-module _ (n : ℕ) (few : n ≤ 255) (net : Network) (holds : Holds n Any net) where
+module _ (n : ℕ) (few : n ≤ unitLimit) (net : Network) (holds : Holds n Any net) where
   -- The invariant but for the link between two units.
   apart : (a b : ℕ) → Holds n (Apart a b) net
   apart a b = holds-fewer (λ x y d. d .0) holds
@@ -92,17 +92,17 @@ module _ (n : ℕ) (few : n ≤ 255) (net : Network) (holds : Holds n Any net) w
         end-up (ua .costs) b c (costs-place n a ua homeA b hb) l in
         let touch : Touch ua (newCost b c) b (onCost ua b c) =
         touch-cost ua (homeA .sound) b (below n a ua homeA b hb) (not-me n a ua homeA b hb d) c (l .most) in
-        let facts : Reacts n a ua (newCost b c) (onCost ua b c) (reaction ua (newCost b c)) =
+        let facts : Reacts n a (having ua (onCost ua b c)) n n (reaction ua (newCost b c)) =
         reacts ua (newCost b c) b (onCost ua b c) touch n a few ha homeA in
         one-end n a b net ha hb d few (apart a b) (newCost b c) (onCost ua b c) touch
         (now ∙ sym up ∙ holds .ends a b ha hb d)
-        (λ w. absurd (true≢false (sym w)))
-        (rw now (rw up at (holds .lines a b ha hb d)))
-        (line-back _ (facts .answers b hb) (holds .lines b a hb ha (λ q. d (sym q))))
+        (none-new n b hb)
+        (rw (now, not-count n b hb) (rw up at (holds .lines a b ha hb d)))
+        (line-back _ (facts .answers b hb ∙ ap oneIf (not-count n b hb)) (holds .lines b a hb ha (λ q. d (sym q))))
 
     -- The link comes up: the direction from a to b after step A at both ends.
     ready-up : (c : ℕ) → LegalCost c → isUp net a b ≡ false
-        → Ready n a b ua (linkUp b c) (onUp ua b c) (copyOf (set (ub .copies) a (zeros (ub .count))) a)
+        → Ready n a b (having ua (onUp ua b c)) b (copyOf (set (ub .copies) a (zeros (ub .count))) a)
         (queue net a b) (queue net b a)
     ready-up c l down =
         let line : LineOf n net a b = holds .lines a b ha hb d in
@@ -153,15 +153,20 @@ module _ (n : ℕ) (few : n ≤ 255) (net : Network) (holds : Holds n Any net) w
       touch = touch-received ub (homeB .sound) m a (each-first from-a) (below n b ub homeB a ha) tree
 
       -- The reaction at b.
-      facts : Reacts n b ub (received m) (onReceived ub m a) (reaction ub (received m))
+      facts : Reacts n b (having ub (onReceived ub m a)) n (owedOf n (received m)) (reaction ub (received m))
       facts = reacts ub (received m) a (onReceived ub m a) touch n b few hb homeB
 
       -- It acknowledges the message where that held an update.
-      answered : acksIn (getD (reaction ub (received m) .sent) a []) ≡ oneIf (holdsUpdate m)
+      answered : acknowledgmentsIn (getD (reaction ub (received m) .sent) a []) ≡ oneIf (holdsUpdate m)
       answered =
           facts .answers a ha
-          ∙ ap oneIf (ap (λ (t : Bool). holdsUpdate m && t) (eq-eqb a (m .sender) (sym (each-first from-a)))
-          ∙ and-true (holdsUpdate m))
+          ∙ ap oneIf owed
+        where
+          owed : isOwed n (received m) a ≡ holdsUpdate m
+          owed =
+              by-test (holdsUpdate m)
+              (λ h. rw h (eq-eqb a (m .sender) (sym (each-first from-a))))
+              (λ h. rw h (not-count n a ha))
 
       -- The delivery keeps the invariant.
       pub keeps-delivery : Holds n Any (happens shorter b (received m))
@@ -172,8 +177,8 @@ module _ (n : ℕ) (few : n ≤ 255) (net : Network) (holds : Holds n Any net) w
           (holds-fewer (λ x y. apart-turned x y) (holds-queue n a b net ha hb (apart a b) rest (each-rest from-a)))
           (received m) (onReceived ub m a) touch
           (holds .ends b a hb ha e)
-          (λ w. absurd (true≢false (sym w)))
-          (rw (wait-left m, there, back) (line-answered m (rw first at (holds .lines b a hb ha e))))
+          (none-new n a ha)
+          (rw (wait-left m, there, back, not-count n a ha) (line-answered m (rw first at (holds .lines b a hb ha e))))
           (rw (copy-heard m, there, back)
           (line-heard m _ answered (own-at n a ua homeA) (rw first at (holds .lines a b ha hb d))))
         where
@@ -184,7 +189,7 @@ module _ (n : ℕ) (few : n ≤ 255) (net : Network) (holds : Holds n Any net) w
           back = queue-elsewhere n net (holds .shape) a b rest ha hb b a (λ p q. d q)
 
 -- The link between a and b comes up.
-pub keeps-up : (n : ℕ) → n ≤ 255 → (net : Network) → Holds n Any net → (a b : ℕ) → a < n → b < n → a ≢ b
+pub keeps-up : (n : ℕ) → n ≤ unitLimit → (net : Network) → Holds n Any net → (a b : ℕ) → a < n → b < n → a ≢ b
     → (costOfA costOfB : ℕ) → LegalCost costOfA → LegalCost costOfB → isUp net a b ≡ false
     → Holds n Any (happens (happens net a (linkUp b costOfA)) b (linkUp a costOfB))
 keeps-up n few net holds a b ha hb d ca cb la lb down =
@@ -199,7 +204,7 @@ keeps-up n few net holds a b ha hb d ca cb la lb down =
     (touch-up ua (homeA .sound) b (below n a ua homeA b hb) (not-me n a ua homeA b hb d) ca (la .most))
     (linkUp a cb) (onUp ub a cb)
     (touch-up ub (homeB .sound) a (below n b ub homeB a ha) (not-me n b ub homeB a ha e) cb (lb .most))
-    refl refl
+    (not-count n b hb) (not-count n a ha)
     (end-up (ua .costs) b ca (costs-place n a ua homeA b hb) la
     ∙ sym (end-up (ub .costs) a cb (costs-place n b ub homeB a ha) lb))
     (λ w. no-wait n few net holds a b ha hb d down)
@@ -209,17 +214,18 @@ keeps-up n few net holds a b ha hb d ca cb la lb down =
 
 -- The link goes down: the direction from a to b after step A at both ends, its queues empty.
 ready-down : (n a b : ℕ) (u w : Unit) → a < n → b < n → Home n a u → Home n b w
-    → Ready n a b u (linkDown b) (onDown u b) (copyOf (set (w .copies) a (zeros (w .count))) a) [] []
+    → Ready n a b (having u (onDown u b)) n (copyOf (set (w .copies) a (zeros (w .count))) a) [] []
 ready-down n a b u w ha hb homeA homeB =
     rw (
       end-set (u .costs) b 0 (costs-place n a u homeA b hb),
       getD-set-same (u .awaited) b 0 0 (awaited-place n a u homeA b hb),
       empty-copy n b w homeB a ha,
+      not-count n b hb,
     )
     (line-down n a (u .tree) (u .feasible) (λ j. omega (arith, own-at n a u homeA j, zeros-furthest n a (u .tree) j)))
 
 -- The link between a and b goes down, its queues emptied first.
-pub keeps-down : (n : ℕ) → n ≤ 255 → (net : Network) → Holds n Any net → (a b : ℕ) → a < n → b < n → a ≢ b
+pub keeps-down : (n : ℕ) → n ≤ unitLimit → (net : Network) → Holds n Any net → (a b : ℕ) → a < n → b < n → a ≢ b
     → Holds n Any (happens (happens (emptied net a b) a (linkDown b)) b (linkDown a))
 keeps-down n few net holds a b ha hb d =
     let e : b ≢ a = λ q. d (sym q) in
@@ -239,10 +245,10 @@ keeps-down n few net holds a b ha hb d =
     (touch-down ua (homeA .sound) b (below n a ua homeA b hb) (not-me n a ua homeA b hb d))
     (linkDown a) (onDown ub a)
     (touch-down ub (homeB .sound) a (below n b ub homeB a ha) (not-me n b ub homeB a ha e))
-    refl refl
+    (not-count n b hb) (not-count n a ha)
     (end-set (ua .costs) b 0 (costs-place n a ua homeA b hb)
     ∙ sym (end-set (ub .costs) a 0 (costs-place n b ub homeB a ha)))
-    (λ w. absurd (true≢false (sym w)))
-    (λ w. absurd (true≢false (sym w)))
+    (none-new n b hb)
+    (none-new n a ha)
     (rw (there, back) (ready-down n a b ua ub ha hb homeA homeB))
     (rw (there, back) (ready-down n b a ub ua hb ha homeB homeA))

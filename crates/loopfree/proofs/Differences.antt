@@ -10,6 +10,7 @@ use lib.Dec.{eqb}
 use lib.ListN.{length, set, length-append, List·getD-append}
 use lib.Seq.{getD-at, ext-getD, set-getD, getD-set-same, getD-set-other}
 use borrow.Author.Tests.{eqb-true, eq-eqb, ne-eqb}
+use Rattle.ground.specs.Limits.{changeBase}
 use Rattle.ground.specs.Rows.{at, some}
 use Rattle.ground.proofs.Rows.{some-ext}
 use Rattle.ground.proofs.Tests.{neither-of}
@@ -17,10 +18,10 @@ use Rattle.tree.specs.Tree.{nothing}
 use Rattle.rules.specs.Event.{changesNothing}
 use Rattle.rules.specs.Message.{change, unitOf, bodyOf, removed, entryOf, bodyFor, differences, applied}
 use Rattle.rules.proofs.Applied.{withChange, applied-more, length-applied}
-use Rattle.loopfree.proofs.Cases.{by-test, by-equal}
+use Rattle.steps.proofs.Cases.{by-test, by-equal}
 
 -- The body of an entry below the body for a removed one gives it back, and is short itself.
-body-back : (e : ℕ) → e < removed → (entryOf (bodyFor e) ≡ e) × (bodyFor e < 16777216)
+body-back : (e : ℕ) → e < removed → (entryOf (bodyFor e) ≡ e) × (bodyFor e < changeBase)
 body-back e c =
     by-equal e nothing
     (λ z. rw (eq-eqb e nothing z) (sym z, omega arith))
@@ -30,8 +31,8 @@ body-back e c =
 change-back : (j e : ℕ) → e < removed
     → (unitOf (change j (bodyFor e)) ≡ j) × (entryOf (bodyOf (change j (bodyFor e))) ≡ e)
 change-back j e c =
-    let b : (entryOf (bodyFor e) ≡ e) × (bodyFor e < 16777216) = body-back e c in
-    let s : bodyFor e < 16777216 = b .1 in
+    let b : (entryOf (bodyFor e) ≡ e) × (bodyFor e < changeBase) = body-back e c in
+    let s : bodyFor e < changeBase = b .1 in
     let w : bodyOf (change j (bodyFor e)) ≡ bodyFor e = omega arith in
     (omega arith, rw w (b .0))
 

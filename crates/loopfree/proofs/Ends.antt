@@ -8,18 +8,19 @@ use mathlib.Core.Logic.{_≢_}
 use mathlib.Core.Path.{_≡_, sym, ap, _∙_}
 use lib.Dec.{eqb}
 use lib.ListN.{getD}
+use Rattle.ground.specs.Limits.{unitLimit}
 use Rattle.ground.specs.Rows.{at}
 use Rattle.tree.specs.Recompute.{copyOf}
-use Rattle.rules.specs.Event.{Event, Reaction, reaction, isNew, isAcknowledged}
+use Rattle.rules.specs.Event.{Event, Reaction, newOf, owedOf, reaction}
 use Rattle.rules.specs.Network.{Network, unitAt, queue, isUp, happens}
 use Rattle.loopfree.proofs.Exchange.{Line, oneIf, line-back}
 use Rattle.loopfree.proofs.Invariant.{Holds, Any, Apart, apart-turned, holds-fewer, holds-all}
 use Rattle.loopfree.proofs.Invariant.{holds-reaction, facts, line-out, line-in, up-same, up-here}
 use Rattle.loopfree.proofs.Reaction.{Ready, Reacts, reacts}
-use Rattle.loopfree.proofs.Shape.{unit-here, unit-elsewhere, queue-from, queue-of-other}
-use Rattle.loopfree.proofs.Sound.{Links, Touch}
+use Rattle.steps.proofs.NetworkLists.{unit-here, unit-elsewhere, queue-from, queue-of-other}
+use Rattle.loopfree.proofs.Sound.{Links, having, Touch, isNew, isOwed}
 
-module _ (n a b : ℕ) (net : Network) (ha : a < n) (hb : b < n) (d : a ≢ b) (few : n ≤ 255)
+module _ (n a b : ℕ) (net : Network) (ha : a < n) (hb : b < n) (d : a ≢ b) (few : n ≤ unitLimit)
     (holds : Holds n (Apart a b) net)
     (ea : Event) (ta : Links) (touchA : Touch (unitAt net a) ea b ta) where
   -- The reaction at a.
@@ -27,8 +28,8 @@ module _ (n a b : ℕ) (net : Network) (ha : a < n) (hb : b < n) (d : a ≢ b) (
   ra = reaction (unitAt net a) ea
 
   -- An event at a alone.
-  pub one-end : not (eqb (at (ta .costs) b) 0) ≡ isUp net b a → (isNew ea b ≡ true → at (ta .awaited) b ≡ 0)
-      → Ready n a b (unitAt net a) ea ta (copyOf (unitAt net b .copies) a) (queue net a b) (queue net b a)
+  pub one-end : not (eqb (at (ta .costs) b) 0) ≡ isUp net b a → (isNew n ea b ≡ true → at (ta .awaited) b ≡ 0)
+      → Ready n a b (having (unitAt net a) ta) (newOf n ea) (copyOf (unitAt net b .copies) a) (queue net a b) (queue net b a)
       → Line n b (isUp net b a) (at (unitAt net b .awaited) a) (unitAt net b .tree) (unitAt net b .feasible)
       (copyOf (ta .copies) b) (queue net b a) (queue net a b ++ getD (ra .sent) b [])
       → Holds n Any (happens net a ea)
@@ -41,7 +42,7 @@ module _ (n a b : ℕ) (net : Network) (ha : a < n) (hb : b < n) (d : a ≢ b) (
 
   -- An event at a, then one at b.
   module _ (eb : Event) (tb : Links) (touchB : Touch (unitAt net b) eb a tb)
-      (no-a : isAcknowledged ea b ≡ false) (no-b : isAcknowledged eb a ≡ false) where
+      (no-a : isOwed n ea b ≡ false) (no-b : isOwed n eb a ≡ false) where
     -- The network between the two, and the reaction at b.
     abbrev one : Network
     one = happens net a ea
@@ -78,18 +79,18 @@ module _ (n a b : ℕ) (net : Network) (ha : a < n) (hb : b < n) (d : a ≢ b) (
     touch-b = rw unit-b touchB
 
     -- What is known of the reaction at a.
-    facts-a : Reacts n a (unitAt net a) ea ta ra
+    facts-a : Reacts n a (having (unitAt net a) ta) (newOf n ea) (owedOf n ea) ra
     facts-a = facts n a b net ha hb holds few ea ta touchA
 
     -- What is known of the reaction at b.
-    facts-b : Reacts n b (unitAt net b) eb tb rb
+    facts-b : Reacts n b (having (unitAt net b) tb) (newOf n eb) (owedOf n eb) rb
     facts-b = reacts (unitAt net b) eb a tb touchB n b few hb (holds .home b hb)
 
     -- After both the invariant holds.
     pub two-ends : not (eqb (at (ta .costs) b) 0) ≡ not (eqb (at (tb .costs) a) 0)
-        → (isNew ea b ≡ true → at (ta .awaited) b ≡ 0) → (isNew eb a ≡ true → at (tb .awaited) a ≡ 0)
-        → Ready n a b (unitAt net a) ea ta (copyOf (tb .copies) a) (queue net a b) (queue net b a)
-        → Ready n b a (unitAt net b) eb tb (copyOf (ta .copies) b) (queue net b a) (queue net a b)
+        → (isNew n ea b ≡ true → at (ta .awaited) b ≡ 0) → (isNew n eb a ≡ true → at (tb .awaited) a ≡ 0)
+        → Ready n a b (having (unitAt net a) ta) (newOf n ea) (copyOf (tb .copies) a) (queue net a b) (queue net b a)
+        → Ready n b a (having (unitAt net b) tb) (newOf n eb) (copyOf (ta .copies) b) (queue net b a) (queue net a b)
         → Holds n Any (happens one b eb)
     two-ends ends new-a new-b ready-a ready-b =
         holds-all b a (holds-reaction n b a one hb ha between few eb tb touch-b)

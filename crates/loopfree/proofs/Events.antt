@@ -3,7 +3,7 @@
 use Prim.Native.Nat.{ℕ, _≤_, _<_}
 use native.Mathlib.Nat.{le-refl}
 use native.Mathlib.Omega.{arith}
-use mathlib.Core.Bool.{true, and-false}
+use mathlib.Core.Bool.{true}
 use mathlib.Core.List.{List, []}
 use mathlib.Core.Logic.{_≢_}
 use mathlib.Core.Path.{_≡_, refl, sym, subst, _∙_}
@@ -19,7 +19,8 @@ use Rattle.tree.proofs.Rooted.{zeros-tree}
 use Rattle.rules.specs.Event.{received, linkUp, newCost, linkDown, noted}
 use Rattle.rules.specs.Message.{Message, holdsUpdate, holdsAcknowledgment, applied}
 use Rattle.rules.specs.Unit.{Unit}
-use Rattle.loopfree.proofs.Cases.{by-test, by-equal}
+use Rattle.steps.proofs.Cases.{by-test, by-equal}
+use Rattle.steps.proofs.SentMessages.{not-count}
 use Rattle.loopfree.proofs.Sound.{Links, linksOf, SoundLinks, Sound, Touch}
 
 -- The tables of links with another cost to b; another copy of b's tree; no wait on b.
@@ -120,8 +121,10 @@ module _ (u : Unit) (sound : Sound u) where
         same-copy = λ k d. by-test (holdsUpdate m)
             (λ p. rw p (getD-set-other (u .copies) (m .sender) k copy [] d))
             (λ p. rw p);
-        not-new = λ k d. refl;
-        no-answer = λ k d. rw (ne-eqb k (m .sender) d) (and-false (holdsUpdate m));
+        not-new = λ k l d. not-count (u .count) k l;
+        no-answer = λ k l d. by-test (holdsUpdate m)
+            (λ p. rw p (ne-eqb k (m .sender) d))
+            (λ p. rw p (not-count (u .count) k l));
       }
     where
       copy : List ℕ
@@ -156,8 +159,8 @@ module _ (u : Unit) (sound : Sound u) where
           same-cost = λ k q. getD-set-other (u .costs) b k c 0 q;
           same-wait = λ k q. refl;
           same-copy = λ k q. getD-set-other (u .copies) b k (zeros (u .count)) [] q;
-          not-new = λ k q. ne-eqb k b q;
-          no-answer = λ k q. refl;
+          not-new = λ k l q. ne-eqb k b q;
+          no-answer = λ k l q. not-count (u .count) k l;
         }
 
     -- The link to b has another cost.
@@ -171,8 +174,8 @@ module _ (u : Unit) (sound : Sound u) where
           same-cost = λ k q. getD-set-other (u .costs) b k c 0 q;
           same-wait = λ k q. refl;
           same-copy = λ k q. refl;
-          not-new = λ k q. refl;
-          no-answer = λ k q. refl;
+          not-new = λ k l q. not-count (u .count) k l;
+          no-answer = λ k l q. not-count (u .count) k l;
         }
 
     -- The link to b goes down.
@@ -187,6 +190,6 @@ module _ (u : Unit) (sound : Sound u) where
           same-cost = λ k q. getD-set-other (u .costs) b k 0 0 q;
           same-wait = λ k q. getD-set-other (u .awaited) b k 0 0 q;
           same-copy = λ k q. getD-set-other (u .copies) b k (zeros (u .count)) [] q;
-          not-new = λ k q. refl;
-          no-answer = λ k q. refl;
+          not-new = λ k l q. not-count (u .count) k l;
+          no-answer = λ k l q. not-count (u .count) k l;
         }

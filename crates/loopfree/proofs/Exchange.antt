@@ -11,11 +11,13 @@ use mathlib.Core.Logic.{_⊎_, inl, inr}
 use mathlib.Core.Path.{_≡_, refl, sym, ap, _∙_}
 use Rattle.ground.specs.Choice.{if_then_else_}
 use Rattle.ground.specs.Rows.{at, zeros}
-use Rattle.ground.proofs.Each.{Each, none, one, each-rest, each-append}
-use Rattle.ground.proofs.Tests.{if-true, if-false}
+use Rattle.ground.proofs.Each.{Each, none, one, each-rest, each-append, each-map}
+use Rattle.ground.proofs.Tests.{not-both, if-true, if-false}
 use Rattle.tree.specs.Tree.{distance}
-use Rattle.rules.specs.Message.{Message, holdsUpdate, holdsAcknowledgment, differences, applied}
-use Rattle.loopfree.proofs.Cases.{by-test}
+use Rattle.rules.specs.Event.{changesNothing}
+use Rattle.rules.specs.Message.{Message, holdsUpdate, holdsAcknowledgment, applied}
+use Rattle.loopfree.specs.Conditions.{countIn, updatesIn, acknowledgmentsIn, heard, heardAll}
+use Rattle.steps.proofs.Cases.{by-test}
 
 -- 1 where a test holds, else 0.
 abbrev pub oneIf : Bool → ℕ
@@ -26,19 +28,8 @@ pub one-of : (b : Bool) → b ≡ true → oneIf b ≡ 1
 one-of b e = if-true b 1 0 e
 
 -- It is 0 for a test that does not.
-none-of : (b : Bool) → b ≡ false → oneIf b ≡ 0
+pub none-of : (b : Bool) → b ≡ false → oneIf b ≡ 0
 none-of b e = if-false b 1 0 e
-
--- How many messages pass a test: how many hold an update; how many an acknowledgment.
-unfoldable pub countIn : (Message → Bool) → List Message → ℕ
-countIn test [] = 0
-countIn test (m ∷ rest) = oneIf (test m) + countIn test rest
-
-abbrev pub updatesIn : List Message → ℕ
-updatesIn messages = countIn holdsUpdate messages
-
-abbrev pub acksIn : List Message → ℕ
-acksIn messages = countIn holdsAcknowledgment messages
 
 -- Messages one after the other.
 count-append : (test : Message → Bool) (xs ys : List Message)
@@ -47,55 +38,76 @@ unfolding countIn
 count-append test [] ys = omega arith
 count-append test (m ∷ xs) ys = omega (arith, count-append test xs ys)
 
--- What a copy becomes by a message; by all messages on the way.
-abbrev pub heard : (copy : List ℕ) → Message → List ℕ
-heard copy m = if holdsUpdate m then applied copy (m .changes) else copy
+-- A message that is told over a copy: each of its changes changes something there, and without an update it has none.
+pub record Telling (copy : List ℕ) (m : Message) : Type 0 where
+  pub changing : changesNothing copy (m .changes) ≡ false
+  pub bare : holdsUpdate m ≡ false → m .changes ≡ []
 
-unfoldable pub arrived : (copy : List ℕ) → List Message → List ℕ
-arrived copy [] = copy
-arrived copy (m ∷ rest) = arrived (heard copy m) rest
-
--- A message's changes: the given ones where it holds an update, else none.
-abbrev pub Tells : (changes : List ℕ) → Message → Type 0
-Tells changes m = m .changes ≡ (if holdsUpdate m then changes else [])
+-- One without changes is.
+pub tells-none : {copy : List ℕ} {m : Message} → m .changes ≡ [] → Telling copy m
+unfolding changesNothing
+tells-none e = record { changing = rw e; bare = λ h. e }
 
 -- The direction from unit i to another unit. Of i: whether its end is up, 1 or 0 for whether it waits, its tree and
 -- feasible distances. Of the other: its copy of i's tree. `there` are the messages queued to it, `back` those queued to
 -- i. An end that is up: once all that is queued there has arrived, the copy is i's tree. An end that is down: no wait, so
 -- no update there and no acknowledgment back, and an empty copy. Always: feasible distances at most the copy's distances,
--- and an update that is queued there holds the differences of i's tree from the copy.
+-- and each change of an update that is queued there changes something in the copy.
 pub record Line (n i : ℕ) (up : Bool) (waits : ℕ) (tree feasible copy : List ℕ) (there back : List Message) : Type 0 where
-  pub balance : updatesIn there + acksIn back ≡ waits
+  pub balance : updatesIn there + acknowledgmentsIn back ≡ waits
   pub single : waits ≤ 1
-  pub arrives : up ≡ true → arrived copy there ≡ tree
+  pub arrives : up ≡ true → heardAll copy there ≡ tree
   pub off : up ≡ false → (waits ≡ 0) × (copy ≡ zeros n)
   pub lower : (j : ℕ) → at feasible j ≤ distance n i copy j
-  pub told : Each (Tells (differences n copy tree)) there
+  pub told : Each (Telling copy) there
 
 -- What arrives by some messages, then by others.
-arrived-append : (copy : List ℕ) (xs ys : List Message) → arrived copy (xs ++ ys) ≡ arrived (arrived copy xs) ys
-unfolding arrived
-arrived-append copy [] ys = refl
-arrived-append copy (m ∷ xs) ys = arrived-append (heard copy m) xs ys
+heard-append : (copy : List ℕ) (xs ys : List Message) → heardAll copy (xs ++ ys) ≡ heardAll (heardAll copy xs) ys
+unfolding heardAll
+heard-append copy [] ys = refl
+heard-append copy (m ∷ xs) ys = heard-append (heard copy m) xs ys
 
 -- Messages that hold no update leave the copy.
-arrived-none : (copy : List ℕ) (xs : List Message) → updatesIn xs ≡ 0 → arrived copy xs ≡ copy
-unfolding countIn arrived
-arrived-none copy [] e = refl
-arrived-none copy (m ∷ xs) e =
+heard-none : (copy : List ℕ) (xs : List Message) → updatesIn xs ≡ 0 → heardAll copy xs ≡ copy
+unfolding countIn heardAll
+heard-none copy [] e = refl
+heard-none copy (m ∷ xs) e =
     by-test (holdsUpdate m)
     (λ h. absurd (omega (arith, one-of (holdsUpdate m) h)))
-    (λ h. ap (λ (c : List ℕ). arrived c xs) (if-false (holdsUpdate m) (applied copy (m .changes)) copy h)
-    ∙ arrived-none copy xs (omega (arith, none-of (holdsUpdate m) h)))
+    (λ h. ap (λ (c : List ℕ). heardAll c xs) (if-false (holdsUpdate m) (applied copy (m .changes)) copy h)
+    ∙ heard-none copy xs (omega (arith, none-of (holdsUpdate m) h)))
 
--- Messages that hold no update tell whatever changes.
-retold : (old new : List ℕ) {xs : List Message} → updatesIn xs ≡ 0 → Each (Tells old) xs → Each (Tells new) xs
+-- Each of them holds none.
+no-updates : (xs : List Message) → updatesIn xs ≡ 0 → Each (λ m. holdsUpdate m ≡ false) xs
+unfolding countIn
+no-updates [] e = none
+no-updates (m ∷ xs) e =
+    by-test (holdsUpdate m)
+    (λ h. absurd (omega (arith, one-of (holdsUpdate m) h)))
+    (λ h. one h (no-updates xs (omega (arith, none-of (holdsUpdate m) h))))
+
+-- Of messages with at most one update it is that update which makes the copy.
+pub only-update : (copy : List ℕ) (xs : List Message) → updatesIn xs ≤ 1
+    → Each (λ m. holdsUpdate m ≡ true → heardAll copy xs ≡ applied copy (m .changes)) xs
+unfolding countIn heardAll
+only-update copy [] few = none
+only-update copy (m ∷ xs) few =
+    by-test (holdsUpdate m)
+    (λ h.
+    let none-left : updatesIn xs ≡ 0 = omega (arith, one-of (holdsUpdate m) h) in
+    one (λ _. rw h (heard-none (applied copy (m .changes)) xs none-left))
+    (each-map (λ x u r. absurd (not-both (holdsUpdate x) r u)) (no-updates xs none-left)))
+    (λ h. one (λ r. absurd (not-both (holdsUpdate m) r h))
+    (rw h (only-update copy xs (omega (arith, none-of (holdsUpdate m) h)))))
+
+-- Messages that hold no update are told over any copy.
+retold : (old new : List ℕ) {xs : List Message} → updatesIn xs ≡ 0 → Each (Telling old) xs → Each (Telling new) xs
 unfolding countIn
 retold old new e none = none
 retold old new e (one {x = m} p ps) =
     by-test (holdsUpdate m)
     (λ h. absurd (omega (arith, one-of (holdsUpdate m) h)))
-    (λ h. one (rw h (rw h at p)) (retold old new (omega (arith, none-of (holdsUpdate m) h)) ps))
+    (λ h. one (tells-none (p .bare h)) (retold old new (omega (arith, none-of (holdsUpdate m) h)) ps))
 
 module _ {n i : ℕ} {up : Bool} {waits : ℕ} {tree feasible copy : List ℕ} {there back : List Message} where
   -- Where i does not wait, the copy is i's tree, or the empty one and the link is down.
@@ -103,11 +115,11 @@ module _ {n i : ℕ} {up : Bool} {waits : ℕ} {tree feasible copy : List ℕ} {
       → ((up ≡ true) × (copy ≡ tree)) ⊎ (copy ≡ zeros n)
   line-settled l w =
       by-test up
-      (λ u. inl (u, sym (arrived-none copy there (omega arith)) ∙ l .arrives u))
+      (λ u. inl (u, sym (heard-none copy there (omega arith)) ∙ l .arrives u))
       (λ u. inr (l .off u .1))
 
   -- Messages without an acknowledgment, sent back, change nothing.
-  pub line-back : (sent : List Message) → acksIn sent ≡ 0 → Line n i up waits tree feasible copy there back
+  pub line-back : (sent : List Message) → acknowledgmentsIn sent ≡ 0 → Line n i up waits tree feasible copy there back
       → Line n i up waits tree feasible copy there (back ++ sent)
   line-back sent e l =
       record {
@@ -124,7 +136,7 @@ module _ {n i : ℕ} {up : Bool} {waits : ℕ} {tree feasible copy : List ℕ} {
       → Line n i up (if holdsAcknowledgment m then 0 else waits) tree feasible copy there back
   unfolding countIn
   line-answered m l =
-      let w : (if holdsAcknowledgment m then 0 else waits) ≡ updatesIn there + acksIn back =
+      let w : (if holdsAcknowledgment m then 0 else waits) ≡ updatesIn there + acknowledgmentsIn back =
       by-test (holdsAcknowledgment m)
       (λ h. rw h (omega (arith, one-of (holdsAcknowledgment m) h)))
       (λ h. rw h (omega (arith, none-of (holdsAcknowledgment m) h))) in
@@ -138,10 +150,10 @@ module _ {n i : ℕ} {up : Bool} {waits : ℕ} {tree feasible copy : List ℕ} {
       }
 
   -- The first message that i sent is received: its update changes the copy, and is acknowledged.
-  pub line-heard : (m : Message) (sent : List Message) → acksIn sent ≡ oneIf (holdsUpdate m)
+  pub line-heard : (m : Message) (sent : List Message) → acknowledgmentsIn sent ≡ oneIf (holdsUpdate m)
       → ((j : ℕ) → at feasible j ≤ distance n i tree j) → Line n i up waits tree feasible copy (m ∷ there) back
       → Line n i up waits tree feasible (heard copy m) there (back ++ sent)
-  unfolding countIn arrived
+  unfolding countIn heardAll
   line-heard m sent e own l =
       record {
         balance = omega (arith, count-append holdsAcknowledgment back sent);
@@ -153,7 +165,7 @@ module _ {n i : ℕ} {up : Bool} {waits : ℕ} {tree feasible copy : List ℕ} {
         lower = λ j. by-test (holdsUpdate m) (heard-lower j) (λ h. rw h (l .lower j));
         told = by-test (holdsUpdate m)
             (λ h. let one : oneIf (holdsUpdate m) ≡ 1 = one-of (holdsUpdate m) h in
-            retold (differences n copy tree) (differences n (heard copy m) tree) (omega arith) (each-rest (l .told)))
+            retold copy (heard copy m) (omega arith) (each-rest (l .told)))
             (λ h. rw h (each-rest (l .told)));
       }
     where
@@ -168,7 +180,7 @@ module _ {n i : ℕ} {up : Bool} {waits : ℕ} {tree feasible copy : List ℕ} {
           let one : oneIf (holdsUpdate m) ≡ 1 = one-of (holdsUpdate m) h in
           let none : updatesIn there ≡ 0 = omega arith in
           by-test up
-          (λ u. rw (sym (arrived-none (heard copy m) there none) ∙ l .arrives u) (own j))
+          (λ u. rw (sym (heard-none (heard copy m) there none) ∙ l .arrives u) (own j))
           (λ u. absurd (omega (arith, l .off u .0)))
 
   -- The link comes up at i's end: what k should know is the empty tree.
@@ -178,36 +190,36 @@ module _ {n i : ℕ} {up : Bool} {waits : ℕ} {tree feasible copy : List ℕ} {
       record {
         balance = l .balance;
         single = l .single;
-        arrives = λ u. arrived-none copy there (omega (arith, l .off d .0)) ∙ l .off d .1;
+        arrives = λ u. heard-none copy there (omega (arith, l .off d .0)) ∙ l .off d .1;
         off = λ u. absurd (true≢false u);
         lower = l .lower;
-        told = retold (differences n copy tree) (differences n copy (zeros n)) (omega (arith, l .off d .0)) (l .told);
+        told = l .told;
       }
 
   -- An update is sent to a neighbour that i does not wait for.
-  pub line-sent : (m : Message) (new lowered : List ℕ) → holdsUpdate m ≡ true → m .changes ≡ differences n tree new
+  pub line-sent : (m : Message) (new lowered : List ℕ) → holdsUpdate m ≡ true → changesNothing tree (m .changes) ≡ false
       → applied tree (m .changes) ≡ new → ((j : ℕ) → at lowered j ≤ distance n i copy j) → up ≡ true → waits ≡ 0
       → Line n i up waits tree feasible copy there back
       → Line n i up 1 new lowered copy (there ++ (m ∷ [])) back
-  unfolding countIn arrived
+  unfolding countIn heardAll
   line-sent m new lowered h c e low u w l =
-      let settled : copy ≡ tree = sym (arrived-none copy there (omega arith)) ∙ l .arrives u in
+      let settled : copy ≡ tree = sym (heard-none copy there (omega arith)) ∙ l .arrives u in
       record {
         balance = omega (arith, count-append holdsUpdate there (m ∷ []), one-of (holdsUpdate m) h);
         single = le-refl 1;
         arrives = λ u.
-            arrived-append copy there (m ∷ [])
+            heard-append copy there (m ∷ [])
             ∙ ap (λ (c : List ℕ). heard c m) (l .arrives u)
             ∙ if-true (holdsUpdate m) (applied tree (m .changes)) tree h
             ∙ e;
         off = λ d. absurd (true≢false (sym u ∙ d));
         lower = low;
-        told = each-append (retold (differences n copy tree) (differences n copy new) (omega arith) (l .told))
-            (one (rw (h, settled) c) none);
+        told = each-append (l .told)
+            (one (record { changing = rw settled c; bare = λ d. absurd (not-both (holdsUpdate m) h d) }) none);
       }
 
   -- No update is sent, and to a neighbour the tree is the same.
-  pub line-kept : (sent : List Message) (new lowered : List ℕ) → updatesIn sent ≡ 0 → Each (Tells []) sent
+  pub line-kept : (sent : List Message) (new lowered : List ℕ) → updatesIn sent ≡ 0 → Each (Telling copy) sent
       → (up ≡ true → tree ≡ new)
       → ((j : ℕ) → at lowered j ≤ distance n i copy j)
       → Line n i up waits tree feasible copy there back
@@ -216,14 +228,10 @@ module _ {n i : ℕ} {up : Bool} {waits : ℕ} {tree feasible copy : List ℕ} {
       record {
         balance = omega (arith, count-append holdsUpdate there sent);
         single = l .single;
-        arrives = λ u. arrived-append copy there sent ∙ arrived-none (arrived copy there) sent e ∙ l .arrives u ∙ t u;
+        arrives = λ u. heard-append copy there sent ∙ heard-none (heardAll copy there) sent e ∙ l .arrives u ∙ t u;
         off = l .off;
         lower = low;
-        told = each-append
-            (by-test up
-            (λ u. rw (t u) at (l .told))
-            (λ d. retold (differences n copy tree) (differences n copy new) (omega (arith, l .off d .0)) (l .told)))
-            (retold [] (differences n copy new) e s);
+        told = each-append (l .told) s;
       }
 
 -- A link that is down at i's end, its queues empty.

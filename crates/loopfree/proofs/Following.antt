@@ -15,7 +15,7 @@ use Rattle.ground.proofs.Pigeonhole.{Distinct, alone, apart, Below, pigeonhole}
 use Rattle.ground.proofs.Tests.{both, less-or-not}
 use Rattle.tree.specs.Recompute.{copyOf}
 use Rattle.tree.specs.Tree.{distance}
-use Rattle.rules.specs.Network.{Network, unitAt}
+use Rattle.rules.specs.Network.{Network, unitAt, isSuccessorIn}
 use Rattle.rules.specs.Unit.{Unit, freshUnit, isNeighbour, copiedDistance, isSuccessor}
 use Rattle.loopfree.specs.Reached.{Follows, starts, hop}
 use Rattle.loopfree.proofs.Invariant.{Holds, Any}
@@ -42,7 +42,7 @@ module _ (n : ℕ) (net : Network) (holds : Holds n Any net) (destination : ℕ)
   F i = at (unitAt net i .feasible) destination
 
   abbrev Successor : ℕ → ℕ → Type 0
-  Successor i k = isSuccessor (unitAt net i) destination k ≡ true
+  Successor i k = isSuccessorIn net i destination k ≡ true
 
   -- Only units have successors.
   has-unit : (i k : ℕ) → Successor i k → i < n

@@ -2,26 +2,27 @@
 -- it is up at both ends or at none, and a Line in each direction. While an event about the link between a and b is under
 -- way, all this holds `Apart` from that link: replacing a queue of it keeps this, and so does the reaction of an end.
 use Prim.Native.Nat.{ℕ, _≤_, _<_}
-use mathlib.Core.Bool.{true, not, true≢false}
+use mathlib.Core.Bool.{true, false, not, true≢false}
 use mathlib.Core.List.{List, [], _++_}
 use mathlib.Core.Logic.{_≢_}
 use mathlib.Core.Path.{_≡_, sym, ap, _∙_}
 use lib.Dec.{eqb}
 use lib.ListN.{getD}
+use Rattle.ground.specs.Limits.{unitLimit}
 use Rattle.ground.specs.Rows.{at}
 use Rattle.ground.proofs.Each.{each-append}
 use Rattle.tree.specs.Recompute.{copyOf}
-use Rattle.rules.specs.Event.{Event, Reaction, reaction, isNew}
+use Rattle.rules.specs.Event.{Event, Reaction, newOf, owedOf, reaction}
 use Rattle.rules.specs.Message.{Message}
 use Rattle.rules.specs.Network.{Network, unitAt, queue, isUp, withQueue, reacted, happens}
 use Rattle.rules.specs.Unit.{Unit, isNeighbour}
-use Rattle.loopfree.proofs.Cases.{by-equal}
+use Rattle.steps.proofs.Cases.{by-equal}
 use Rattle.loopfree.proofs.Exchange.{Line, oneIf, line-back}
 use Rattle.loopfree.proofs.Reaction.{Ready, Reacts, reacts}
 use Rattle.loopfree.proofs.Sent.{From}
-use Rattle.loopfree.proofs.Shape.{Shape, queue-here, queue-elsewhere, units-stay, shape-queue}
-use Rattle.loopfree.proofs.Shape.{unit-here, unit-elsewhere, queue-from, queue-of-other, shape-reacted}
-use Rattle.loopfree.proofs.Sound.{Links, Home, Touch}
+use Rattle.steps.proofs.NetworkLists.{Shape, queue-here, queue-elsewhere, units-stay, shape-queue}
+use Rattle.steps.proofs.NetworkLists.{unit-here, unit-elsewhere, queue-from, queue-of-other, shape-reacted}
+use Rattle.loopfree.proofs.Sound.{Links, having, Home, Touch, isNew, isOwed}
 
 -- The direction from unit i with tables u to unit k with tables w.
 abbrev pub Direction : (n i k : ℕ) (u w : Unit) (there back : List Message) → Type 0
@@ -122,7 +123,7 @@ module _ (n a b : ℕ) (net : Network) (ha : a < n) (hb : b < n) (holds : Holds 
       elsewhere x y o = queue-elsewhere n net (holds .shape) a b messages ha hb x y o
 
   -- Unit a may react to an event about b.
-  module _ (few : n ≤ 255) (e : Event) (t : Links) (touch : Touch (unitAt net a) e b t) where
+  module _ (few : n ≤ unitLimit) (e : Event) (t : Links) (touch : Touch (unitAt net a) e b t) where
     -- The reaction, and the network after it.
     abbrev r : Reaction
     r = reaction (unitAt net a) e
@@ -131,8 +132,16 @@ module _ (n a b : ℕ) (net : Network) (ha : a < n) (hb : b < n) (holds : Holds 
     net′ = reacted net a r
 
     -- What is known of the reaction.
-    pub facts : Reacts n a (unitAt net a) e t r
+    pub facts : Reacts n a (having (unitAt net a) t) (newOf n e) (owedOf n e) r
     facts = reacts (unitAt net a) e b t touch n a few ha (holds .home a ha)
+
+    -- Only b may be new.
+    not-new : (k : ℕ) → k < n → k ≢ b → isNew n e k ≡ false
+    not-new = rw (holds .home a ha .counted) at (touch .not-new)
+
+    -- Only b may be owed an acknowledgment.
+    no-answer : (k : ℕ) → k < n → k ≢ b → isOwed n e k ≡ false
+    no-answer = rw (holds .home a ha .counted) at (touch .no-answer)
 
     -- The unit that reacted.
     here : unitAt net′ a ≡ r .unit
@@ -151,8 +160,8 @@ module _ (n a b : ℕ) (net : Network) (ha : a < n) (hb : b < n) (holds : Holds 
     others x y d = queue-of-other net a r x y d
 
     -- A direction out of a, from what it is after step A.
-    pub line-out : (y : ℕ) → y < n → y ≢ a → (isNew e y ≡ true → at (t .awaited) y ≡ 0)
-        → Ready n a y (unitAt net a) e t (copyOf (unitAt net y .copies) a) (queue net a y) (queue net y a)
+    pub line-out : (y : ℕ) → y < n → y ≢ a → (isNew n e y ≡ true → at (t .awaited) y ≡ 0)
+        → Ready n a y (having (unitAt net a) t) (newOf n e) (copyOf (unitAt net y .copies) a) (queue net a y) (queue net y a)
         → LineOf n (happens net a e) a y
     unfolding happens
     line-out y hy d new l =
@@ -204,11 +213,11 @@ module _ (n a b : ℕ) (net : Network) (ha : a < n) (hb : b < n) (holds : Holds 
         -- The directions between a and another unit than b.
         quiet-out : (y : ℕ) → y < n → y ≢ a → y ≢ b → LineOf n net a y → LineOf n (happens net a e) a y
         quiet-out y hy d yb l =
-            line-out y hy d (λ w. absurd (true≢false (sym w ∙ touch .not-new y yb)))
-            (rw (touch .same-cost y yb, touch .same-wait y yb, touch .not-new y yb) l)
+            line-out y hy d (λ w. absurd (true≢false (sym w ∙ not-new y hy yb)))
+            (rw (touch .same-cost y yb, touch .same-wait y yb, not-new y hy yb) l)
 
         quiet-in : (x : ℕ) → x < n → x ≢ a → x ≢ b → LineOf n net x a → LineOf n (happens net a e) x a
         quiet-in x hx d xb l =
             line-in x hx d
             (rw (touch .same-copy x xb)
-            (line-back (getD (r .sent) x []) (facts .answers x hx ∙ ap oneIf (touch .no-answer x xb)) l))
+            (line-back (getD (r .sent) x []) (facts .answers x hx ∙ ap oneIf (no-answer x hx xb)) l))

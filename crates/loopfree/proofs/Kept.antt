@@ -4,39 +4,39 @@ use Prim.Native.Nat.{ℕ, _-_, _≤_, _<_}
 use native.Mathlib.Omega.{arith}
 use mathlib.Core.Bool.{true, false, true≢false}
 use mathlib.Core.List.{List, [], _∷_}
-use mathlib.Core.Path.{_≡_, refl, sym, ap, _∙_}
+use mathlib.Core.Logic.{⊎-elim}
+use mathlib.Core.Path.{_≡_, refl, sym, _∙_}
 use lib.Dec.{eqb, leb}
-use lib.ListN.{length, getD, drop, length-replicate}
+use lib.ListN.{length, drop, length-replicate, List·getD-eq-default}
 use borrow.Author.Tests.{leb-true, eqb-true, eq-eqb, ne-eqb}
 use Rattle.ground.specs.Choice.{if_then_else_}
 use Rattle.ground.specs.Limits.{far, unitLimit, legalCount}
 use Rattle.ground.specs.Refusal.{accepted}
-use Rattle.ground.specs.Rows.{at, tab, zeros}
+use Rattle.ground.specs.Rows.{at, zeros}
 use Rattle.ground.proofs.Each.{none}
 use Rattle.ground.proofs.Lists.{at-zeros}
 use Rattle.ground.proofs.Rows.{tab-at, length-tab}
-use Rattle.ground.proofs.Tests.{both}
-use Rattle.tree.specs.Recompute.{copyOf}
+use Rattle.ground.proofs.Tests.{both, less-or-not}
 use Rattle.tree.specs.Tree.{distance}
 use Rattle.tree.proofs.Rooted.{zeros-tree}
-use Rattle.tree.proofs.Tree.{distance-none}
+use Rattle.tree.proofs.Tree.{distance-root, distance-none}
 use Rattle.rules.specs.Event.{received, messageRefusal}
 use Rattle.rules.specs.Message.{Message}
 use Rattle.rules.specs.Network.{Network, Call, up, cost, down, deliver, unitAt, queue}
 use Rattle.rules.specs.Network.{fresh, nextMessage, withQueue, happens, outcome, refusalOf, stepTo, step}
-use Rattle.rules.specs.Unit.{isNeighbour, freshUnit}
+use Rattle.rules.specs.Unit.{freshUnit}
 use Rattle.loopfree.specs.Reached.{run, reached}
-use Rattle.loopfree.proofs.Accepted.{Ends, AcceptedUp, AcceptedCost, AcceptedDelivery, message-tree}
-use Rattle.loopfree.proofs.Accepted.{accepted-up, accepted-cost, accepted-down, accepted-delivery}
+use Rattle.steps.proofs.AcceptedCalls.{Ends, AcceptedUp, AcceptedCost, AcceptedDelivery, message-tree}
+use Rattle.steps.proofs.AcceptedCalls.{accepted-up, accepted-cost, accepted-down, accepted-delivery}
 use Rattle.loopfree.proofs.Calls.{keeps-cost, keeps-up, keeps-down, keeps-delivery}
-use Rattle.loopfree.proofs.Cases.{by-test, by-equal}
+use Rattle.steps.proofs.Alone.{alone-recomputed}
+use Rattle.steps.proofs.Cases.{by-test, by-equal}
+use Rattle.steps.proofs.Fresh.{fresh-copy, fresh-down, fresh-shape, fresh-unit, fresh-queue}
 use Rattle.loopfree.proofs.Exchange.{line-down}
-use Rattle.loopfree.proofs.Feasible.{tab-le}
 use Rattle.loopfree.proofs.Invariant.{Direction, Holds, Any}
 use Rattle.loopfree.proofs.Sound.{Home}
-use Rattle.loopfree.proofs.Shape.{Shape}
 
-module _ (n : ℕ) (few : n ≤ 255) (net : Network) (holds : Holds n Any net) where
+module _ (n : ℕ) (few : n ≤ unitLimit) (net : Network) (holds : Holds n Any net) where
   -- Different units below the network's count are so below n.
   ends-below : (a b : ℕ) → Ends (net .count) a b → Ends n a b
   ends-below a b t = rw (holds .shape .counted) at t
@@ -68,7 +68,7 @@ module _ (n : ℕ) (few : n ≤ 255) (net : Network) (holds : Holds n Any net) w
       keeps-first a b (ends-below a b (known .ends)) (queue net a b) refl (known .some) (known .message)
 
   -- A step keeps the invariant: a refused one changes nothing.
-  keeps-step : (call : Call) → Holds n Any (step net call)
+  pub keeps-step : (call : Call) → Holds n Any (step net call)
   unfolding step stepTo
   keeps-step call =
       by-test (eqb (refusalOf net call (outcome net call)) accepted)
@@ -76,52 +76,33 @@ module _ (n : ℕ) (few : n ≤ 255) (net : Network) (holds : Holds n Any net) w
       (λ t. rw t holds)
 
 -- Calls one after the other keep the invariant.
-pub keeps-run : (n : ℕ) → n ≤ 255 → (net : Network) → Holds n Any net → (calls : List Call) → Holds n Any (run net calls)
+pub keeps-run : (n : ℕ) → n ≤ unitLimit → (net : Network) → Holds n Any net → (calls : List Call) → Holds n Any (run net calls)
 unfolding run
 keeps-run n few net holds [] = holds
 keeps-run n few net holds (call ∷ rest) = keeps-run n few (step net call) (keeps-step n few net holds call) rest
 
--- The fresh network's lists.
-pub fresh-shape : (n : ℕ) → Shape n (fresh n)
-unfolding fresh
-fresh-shape n =
-    record {
-      counted = refl;
-      units-length = length-tab n (freshUnit n);
-      queues-length = length-tab n _;
-      rows-length = λ a h. ap length (tab-at n (λ x. tab n (λ y. [])) a [] h) ∙ length-tab n _;
-    }
-
--- Its units.
-pub fresh-unit : (n i : ℕ) → i < n → unitAt (fresh n) i ≡ freshUnit n i
-unfolding fresh
-fresh-unit n i h = tab-at n (freshUnit n) i (freshUnit 0 0) h
-
--- Its queues.
-pub fresh-queue : (n x y : ℕ) → x < n → y < n → queue (fresh n) x y ≡ []
-unfolding fresh
-fresh-queue n x y hx hy =
-    ap (λ (row : List (List Message)). getD row y []) (tab-at n (λ a. tab n (λ b. [])) x [] hx)
-    ∙ tab-at n (λ b. []) y [] hy
-
--- A fresh unit's copies.
-pub fresh-copy : (n i k : ℕ) → k < n → copyOf (freshUnit n i .copies) k ≡ zeros n
-unfolding freshUnit
-fresh-copy n i k h = tab-at n (λ x. zeros n) k [] h
-
 -- "feasible distance 0 to itself and unreachable to others": the distances in the empty tree.
+fresh-distance : (n i j : ℕ) → j < n → at (freshUnit n i .feasible) j ≡ distance n i (zeros n) j
+unfolding freshUnit
+fresh-distance n i j l =
+    tab-at n (λ x. if eqb x i then 0 else far) j 0 l
+    ∙ by-equal j i
+    (λ e. rw (eq-eqb j i e) (sym (distance-root i (zeros n) (n - 1) j e)))
+    (λ e. rw (ne-eqb j i e) (sym (distance-none i (zeros n) (n - 1) j e (at-zeros n j))))
+
+-- So they are at most these.
 fresh-feasible : (n i j : ℕ) → at (freshUnit n i .feasible) j ≤ distance n i (zeros n) j
 unfolding freshUnit
 fresh-feasible n i j =
-    tab-le n (λ x. if eqb x i then 0 else far) j (distance n i (zeros n) j) (λ l.
-    by-equal j i
-    (λ e. rw (eq-eqb j i e) (omega arith))
-    (λ e. rw (ne-eqb j i e, distance-none i (zeros n) (n - 1) j e (at-zeros n j)) (omega arith)))
+    ⊎-elim
+    (λ l. omega (arith, fresh-distance n i j l))
+    (λ l. omega (arith, List·getD-eq-default (freshUnit n i .feasible) 0 {n = j} (rw (length-tab n) l)))
+    (less-or-not j n)
 
--- A fresh unit is sound.
-fresh-home : (n i : ℕ) → Home n i (freshUnit n i)
+-- A fresh unit is sound and settled.
+fresh-home : (n i : ℕ) → i < n → Home n i (freshUnit n i)
 unfolding freshUnit
-fresh-home n i =
+fresh-home n i h =
     record {
       counted = refl;
       named = refl;
@@ -137,12 +118,11 @@ fresh-home n i =
         rooted = zeros-tree n i;
         own = fresh-feasible n i;
       };
+      settled = λ quiet. record {
+        tree = sym (alone-recomputed n i (zeros n) _ h (λ k l. at-zeros n k));
+        feasible = fresh-distance n i;
+      };
     }
-
--- A fresh unit has no neighbour.
-pub fresh-down : (n i k : ℕ) → isNeighbour (freshUnit n i) k ≡ false
-unfolding freshUnit
-fresh-down n i k = rw (at-zeros n k)
 
 -- A direction between two fresh units is one of a link that is down.
 fresh-line : (n x y : ℕ) → x < n → Direction n x y (freshUnit n x) (freshUnit n y) [] []
@@ -151,11 +131,11 @@ fresh-line n x y h =
     rw (at-zeros n y, fresh-copy n y x h) (line-down n x (zeros n) (freshUnit n x .feasible) (fresh-feasible n x))
 
 -- The invariant holds of the fresh network.
-fresh-holds : (n : ℕ) → Holds n Any (fresh n)
+pub fresh-holds : (n : ℕ) → Holds n Any (fresh n)
 fresh-holds n =
     record {
       shape = fresh-shape n;
-      home = λ i h. rw (fresh-unit n i h) (fresh-home n i);
+      home = λ i h. rw (fresh-unit n i h) (fresh-home n i h);
       signed = λ x y hx hy. rw (fresh-queue n x y hx hy) none;
       ends = λ x y hx hy d. rw (fresh-unit n x hx, fresh-unit n y hy) (fresh-down n x y ∙ sym (fresh-down n y x));
       lines = λ x y hx hy d.

@@ -1,7 +1,6 @@
 -- That MPDA never routes in a circle.
-pub mod Accepted
 pub mod Calls
-pub mod Cases
+pub mod Conditions
 pub mod Differences
 pub mod Ends
 pub mod Events
@@ -13,7 +12,6 @@ pub mod Kept
 pub mod NoCircle
 pub mod Reaction
 pub mod Sent
-pub mod Shape
 pub mod Sound
 pub mod Tracing
 pub mod Trees

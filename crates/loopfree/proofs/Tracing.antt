@@ -13,11 +13,11 @@ use borrow.Author.Tests.{eqb-false}
 use Rattle.ground.specs.Choice.{if_then_else_}
 use Rattle.ground.specs.Rows.{at, rising}
 use Rattle.ground.proofs.Each.{Each, none, one, each-append, each-at}
-use Rattle.rules.specs.Network.{Network, unitAt}
+use Rattle.rules.specs.Network.{Network, unitAt, successorsIn}
 use Rattle.rules.specs.Tracer.{Trace, Ending, arrived, stranded, circling, endsHere, goesOn, chosen, traceFrom, trace}
 use Rattle.rules.specs.Unit.{Unit, isSuccessor, successors}
 use Rattle.loopfree.specs.Reached.{Follows, starts, hop}
-use Rattle.loopfree.proofs.Cases.{by-test}
+use Rattle.steps.proofs.Cases.{by-test}
 use Rattle.loopfree.proofs.Following.{is-unit, few-units}
 use Rattle.loopfree.proofs.Invariant.{Holds, Any}
 
@@ -43,10 +43,10 @@ circles circling = 1
 module _ (n : ℕ) (net : Network) (holds : Holds n Any net) (destination : ℕ) where
   -- Whether unit i has no successor; which one the first of the choices takes there.
   abbrev none-at : ℕ → Bool
-  none-at i = eqb (length (successors (unitAt net i) destination)) 0
+  none-at i = eqb (length (successorsIn net i destination)) 0
 
   abbrev next : ℕ → List ℕ → ℕ
-  next i choices = chosen (successors (unitAt net i) destination) (at choices 0)
+  next i choices = chosen (successorsIn net i destination) (at choices 0)
 
   -- Three cases at a unit: it is the destination, it has no successor, or the trace goes on.
   at-unit : (P : Trace → Type 0) (i : ℕ) (rest : Trace) → P (endsHere arrived i) → P (endsHere stranded i)

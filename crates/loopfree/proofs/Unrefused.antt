@@ -1,37 +1,42 @@
 -- On a network of which the invariant holds no delivery meets refusals 10 to 12: the first message of each queue holds an
 -- acknowledgment only where one is awaited, changes that each change something, and leaves a copy that is a tree.
-use Prim.Native.Nat.{ℕ, _≤_, _<_}
+use Prim.Native.Nat.{ℕ, _<_}
 use native.Mathlib.Omega.{arith}
 use mathlib.Core.Bool.{true, false, not, _&&_}
 use mathlib.Core.List.{List, _∷_}
 use mathlib.Core.Logic.{_≢_}
-use mathlib.Core.Path.{_≡_, sym}
+use mathlib.Core.Path.{_≡_, sym, _∙_}
 use borrow.Author.Tests.{ne-eqb}
 use Rattle.ground.specs.Refusal.{accepted}
 use Rattle.ground.specs.Rows.{at}
 use Rattle.ground.proofs.Each.{each-first}
 use Rattle.tree.specs.Recompute.{copyOf}
 use Rattle.tree.specs.Tree.{isTree}
-use Rattle.tree.proofs.Rooted.{tree-length}
 use Rattle.rules.specs.Event.{messageRefusal, changesNothing}
-use Rattle.rules.specs.Message.{Message, holdsAcknowledgment, holdsUpdate, differences, applied}
-use Rattle.rules.specs.Network.{Network, unitAt, queue}
+use Rattle.rules.specs.Message.{Message, holdsAcknowledgment, holdsUpdate, applied}
+use Rattle.rules.specs.Network.{Network, unitAt, queue, isUp}
+use Rattle.loopfree.specs.Conditions.{countIn}
 use Rattle.rules.specs.Unit.{awaits}
-use Rattle.rules.proofs.TreeEntries.{tree-short}
-use Rattle.loopfree.proofs.Cases.{by-test}
-use Rattle.loopfree.proofs.Differences.{differences-carry, differences-change}
-use Rattle.loopfree.proofs.Exchange.{Tells, countIn, one-of}
+use Rattle.steps.proofs.Cases.{by-test}
+use Rattle.loopfree.proofs.Exchange.{one-of, only-update}
 use Rattle.loopfree.proofs.Invariant.{Direction, Holds, Any}
 use Rattle.loopfree.proofs.Sound.{Home}
 
-module _ (n : ℕ) (few : n ≤ 255) (net : Network) (holds : Holds n Any net) (a b : ℕ) (ha : a < n) (hb : b < n) (d : a ≢ b)
-    (m : Message) (rest : List Message) (first : queue net a b ≡ m ∷ rest) where
+module _ (n : ℕ) (net : Network) (holds : Holds n Any net) (a b : ℕ) (ha : a < n) (hb : b < n) (d : a ≢ b) (m : Message)
+    (rest : List Message) (first : queue net a b ≡ m ∷ rest) where
   -- The sender's tree, and the copy of it that b has.
   abbrev tree : List ℕ
   tree = unitAt net a .tree
 
   abbrev copy : List ℕ
   copy = copyOf (unitAt net b .copies) a
+
+  -- The direction from a to b, and that from b to a.
+  line : Direction n a b (unitAt net a) (unitAt net b) (m ∷ rest) (queue net b a)
+  line = rw first at (holds .lines a b ha hb d)
+
+  back : Direction n b a (unitAt net b) (unitAt net a) (queue net b a) (m ∷ rest)
+  back = rw first at (holds .lines b a hb ha (λ q. d (sym q)))
 
   -- The tree is one.
   rooted : isTree n a tree ≡ true
@@ -47,16 +52,10 @@ module _ (n : ℕ) (few : n ≤ 255) (net : Network) (holds : Holds n Any net) (
   sender : m .sender ≡ a
   sender = each-first (rw first at (holds .signed a b ha hb))
 
-  -- Its changes are the differences of the tree from the copy, or none.
-  told : Tells (differences n copy tree) m
-  told = each-first (rw first at (holds .lines a b ha hb d .told))
-
   -- 10: its acknowledgment is awaited.
   expected : holdsAcknowledgment m && not (awaits (unitAt net b) a) ≡ false
   unfolding countIn
   expected =
-      let back : Direction n b a (unitAt net b) (unitAt net a) (queue net b a) (m ∷ rest) =
-      rw first at (holds .lines b a hb ha (λ q. d (sym q))) in
       by-test (holdsAcknowledgment m)
       (λ h.
       rw (h, ne-eqb (at (unitAt net b .awaited) a) 0 (omega (arith, back .balance, one-of (holdsAcknowledgment m) h))))
@@ -64,25 +63,23 @@ module _ (n : ℕ) (few : n ≤ 255) (net : Network) (holds : Holds n Any net) (
 
   -- 11: each entry changes something in the copy.
   changing : changesNothing copy (m .changes) ≡ false
-  unfolding changesNothing
-  changing =
-      by-test (holdsUpdate m)
-      (λ h. rw (rw h at told)
-      (differences-change n copy tree (tree-short n a tree rooted few) (tree-length n a copy copied)))
-      (λ h. rw (rw h at told))
+  changing = each-first (line .told) .changing
+
+  -- An update gives the sender's tree.
+  gives : holdsUpdate m ≡ true → applied copy (m .changes) ≡ tree
+  unfolding countIn
+  gives h =
+      by-test (isUp net a b)
+      (λ u. sym (each-first (only-update copy (m ∷ rest) (omega (arith, line .balance, line .single))) h) ∙ line .arrives u)
+      (λ u. absurd (omega (arith, line .balance, line .off u .0, one-of (holdsUpdate m) h)))
 
   -- 12: the changed copy is a tree rooted at the sender.
   planted : isTree n a (applied copy (m .changes)) ≡ true
   unfolding applied
   planted =
       by-test (holdsUpdate m)
-      (λ h.
-      rw (
-        rw h at told,
-        differences-carry n copy tree (tree-short n a tree rooted few) (tree-length n a copy copied)
-            (tree-length n a tree rooted),
-      ) rooted)
-      (λ h. rw (rw h at told) copied)
+      (λ h. rw (gives h) rooted)
+      (λ h. rw (each-first (line .told) .bare h) copied)
 
   -- So the message is not refused.
   pub message-accepted : messageRefusal (unitAt net b) m ≡ accepted

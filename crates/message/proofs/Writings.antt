@@ -15,7 +15,7 @@ use lib.Dec.{leb, ltb}
 use lib.ListN.{length, getD, set, take, drop, length-append, length-map}
 use lib.Seq.{take-suc, length-take-le, paste-suc, drop-drop}
 use Rattle.ground.specs.Choice.{if_then_else_}
-use Rattle.ground.specs.Limits.{legalCount, unitLimit, messageRoom}
+use Rattle.ground.specs.Limits.{legalCount, unitLimit, messageRoom, entryBase, changeBase}
 use Rattle.ground.specs.Refusal.{accepted, _gives_, _otherwise_}
 use Rattle.ground.specs.Rows.{at, filled}
 use Rattle.rules.specs.Message.{Message, unitOf, bodyBytes, written, noRoom, legalMessage, writeRefusal, messageLaid}
@@ -52,10 +52,10 @@ map-snoc f (y ∷ xs) x = ap (λ (l : List ℕ). f y ∷ l) (map-snoc f xs x)
 
 -- The bodies of one change more.
 bodies-snoc : (xs : List ℕ) (c : ℕ)
-    → bodyBytes (xs ++ (c ∷ [])) ≡ bodyBytes xs ++ (c / 65536 % 256 ∷ []) ++ (c / 256 % 256 ∷ []) ++ (c % 256 ∷ [])
+    → bodyBytes (xs ++ (c ∷ [])) ≡ bodyBytes xs ++ (c / entryBase % 256 ∷ []) ++ (c / 256 % 256 ∷ []) ++ (c % 256 ∷ [])
 unfolding bodyBytes
 bodies-snoc [] c = refl
-bodies-snoc (x ∷ xs) c = ap (λ (l : List ℕ). x / 65536 % 256 ∷ x / 256 % 256 ∷ x % 256 ∷ l) (bodies-snoc xs c)
+bodies-snoc (x ∷ xs) c = ap (λ (l : List ℕ). x / entryBase % 256 ∷ x / 256 % 256 ∷ x % 256 ∷ l) (bodies-snoc xs c)
 
 -- Three numbers stored one after the other.
 filled-three : (m : ℕ) (xs : List ℕ) (k a b c : ℕ) → length xs ≡ k → k + 2 < m
@@ -93,7 +93,7 @@ module _ (m : ℕ) (front changes : List ℕ) (i : ℕ) (below : i < length chan
   pub bodies-more : (k : ℕ) → k ≡ length front + 3 * i → k + 2 < m
       → set
       (set
-      (set (filled m (front ++ bodyBytes (take i changes))) k (at changes i / 65536 % 256))
+      (set (filled m (front ++ bodyBytes (take i changes))) k (at changes i / entryBase % 256))
       (k + 1)
       (at changes i / 256 % 256))
       (k + 2)
@@ -103,7 +103,7 @@ module _ (m : ℕ) (front changes : List ℕ) (i : ℕ) (below : i < length chan
       filled-three m (front ++ bodyBytes (take i changes)) k _ _ _ long room
       ∙ ap (filled m) whole
     where
-      whole : front ++ bodyBytes (take i changes) ++ (at changes i / 65536 % 256 ∷ []) ++ (at changes i / 256 % 256 ∷ []) ++ (at changes i % 256 ∷ [])
+      whole : front ++ bodyBytes (take i changes) ++ (at changes i / entryBase % 256 ∷ []) ++ (at changes i / 256 % 256 ∷ []) ++ (at changes i % 256 ∷ [])
           ≡ front ++ bodyBytes (take (i + 1) changes)
       whole = rw (next, bodies-snoc) (simp append-assoc)
 
@@ -114,7 +114,7 @@ module _ (m : ℕ) (front changes : List ℕ) (i : ℕ) (below : i < length chan
 pub low-byte : (x : ℕ) → x < 256 → x % 256 ≡ x
 low-byte x h = omega arith
 
-pub high-byte : (c : ℕ) → Fits w32 c → c / 16777216 % 256 ≡ unitOf c
+pub high-byte : (c : ℕ) → Fits w32 c → c / changeBase % 256 ≡ unitOf c
 high-byte c h = omega (arith, h)
 
 -- A turn of the loop that copies to the start of a place.

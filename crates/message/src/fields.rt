@@ -2,6 +2,9 @@
 ghost use mathlib.Core.Path.{_≡_};
 ghost use Rattle.rules.specs.Message.{legalBody, legalChanges, legalMessage};
 ghost use Rattle.message.specs.Fields.{legalFrom, fieldsOf};
+use ground::CHANGE_BASE;
+use ground::ENTRY_BASE;
+use ground::HIGHEST_COST;
 use ground::REMOVED;
 
 // A body sets a head and a cost for its unit, or removes its entry.
@@ -11,25 +14,25 @@ fn legal_body(count: u32, unit: u32, body: u32) -> bool
     if body == REMOVED {
         return true;
     }
-    let head = body / 65536;
+    let head = body / ENTRY_BASE;
     if count <= head {
         return false;
     }
     if head == unit {
         return false;
     }
-    let cost = body % 65536;
+    let cost = body % ENTRY_BASE;
     if cost < 1 {
         return false;
     }
-    cost <= 65535
+    cost <= HIGHEST_COST
 }
 
 // A change of a unit from `lowest` on, below the count and not the sender.
 fn legal_change(count: u32, sender: u32, lowest: u32, change: u32) -> bool
     ensures { λ r. ⌜ r ≡ legalFrom count sender lowest change ⌝ }
 {
-    let unit = change / 16777216;
+    let unit = change / CHANGE_BASE;
     if unit < lowest {
         return false;
     }
@@ -39,7 +42,7 @@ fn legal_change(count: u32, sender: u32, lowest: u32, change: u32) -> bool
     if unit == sender {
         return false;
     }
-    legal_body(count, unit, change % 16777216)
+    legal_body(count, unit, change % CHANGE_BASE)
 }
 
 // Every change is legal, and their units rise.
@@ -53,7 +56,7 @@ fn legal_changes(count: u32, sender: u32, changes: &[u32]) -> bool
         if !legal_change(count, sender, lowest, change) {
             return false;
         }
-        lowest = change / 16777216 + 1;
+        lowest = change / CHANGE_BASE + 1;
         i += 1;
     }
     true

@@ -2,12 +2,14 @@
 ghost use mathlib.Core.Path.{_≡_};
 ghost use Prim.Native.Nat.{_+_, _*_, _<_};
 ghost use lib.ListN.{length};
-ghost use Rattle.ground.specs.Limits.{entryLimit};
+ghost use Rattle.ground.specs.Limits.{entryLimit, unitLimit};
 ghost use Rattle.ground.specs.Rows.{tab, filled};
 ghost use Rattle.rules.specs.Message.{changeAt};
 ghost use Rattle.message.specs.Reading.{isFramed, Framed, refusedReading, readingOf};
 use crate::fields;
+use ground::CHANGE_BASE;
 use ground::ENTRIES;
+use ground::ENTRY_BASE;
 use ground::UNITS;
 
 // What the reader answers: the message's kind, sender and number of entries, or the refusal's number.
@@ -65,12 +67,12 @@ fn change_at(bytes: &[u8], entries: usize, i: usize) -> u32
     let head = wide(bytes[at]);
     let high = wide(bytes[at + 1]);
     let low = wide(bytes[at + 2]);
-    unit * 16777216 + (head * 65536 + high * 256 + low)
+    unit * CHANGE_BASE + (head * ENTRY_BASE + high * 256 + low)
 }
 
 // All changes, in their order.
 fn changes_in(bytes: &[u8], entries: usize) -> [u32; ENTRIES]
-    requires { ⌜ (entries < 16) × (length (now bytes) ≡ 4 + 4 * entries) ⌝ }
+    requires { ⌜ (entries < unitLimit) × (length (now bytes) ≡ 4 + 4 * entries) ⌝ }
     ensures { λ r. ⌜ r ≡ filled entryLimit (tab entries (changeAt (now (bytes .entry)) entries)) ⌝ }
 {
     let mut changes = [0u32; ENTRIES];

@@ -9,6 +9,8 @@ ghost use Rattle.rules.specs.Message.{writeRefusal, written};
 ghost use Rattle.message.specs.Fields.{fieldsOf};
 ghost use Rattle.message.specs.Writing.{Fitting, contentsOf, writingOf, frameAfter, laidAtStart};
 use crate::fields;
+use ground::CHANGE_BASE;
+use ground::ENTRY_BASE;
 use ground::MESSAGE_ROOM;
 use ground::UNITS;
 
@@ -52,7 +54,7 @@ fn contents(kind: u32, sender: u32, changes: &[u32]) -> [u8; MESSAGE_ROOM]
     built[3] = (changes.len() % 256) as u8;
     let mut i = 0;
     while i < changes.len() {
-        built[4 + i] = (changes[i] / 16777216 % 256) as u8;
+        built[4 + i] = (changes[i] / CHANGE_BASE % 256) as u8;
         i += 1;
     }
     built
@@ -68,7 +70,7 @@ fn build(kind: u32, sender: u32, changes: &[u32]) -> [u8; MESSAGE_ROOM]
     while i < changes.len() {
         let change = changes[i];
         let at = 4 + changes.len() + 3 * i;
-        built[at] = (change / 65536 % 256) as u8;
+        built[at] = (change / ENTRY_BASE % 256) as u8;
         built[at + 1] = (change / 256 % 256) as u8;
         built[at + 2] = (change % 256) as u8;
         i += 1;

@@ -1,7 +1,4 @@
--- What the network's code is made of: parts of the tables, their fitness part by part, the messages of an event on their
--- way from the buffer to the queues, and what each call leaves.
+-- What the network's code is made of beside its tables, queues and events: the refusals that come first, and what can be
+-- asked.
 pub mod Asking
-pub mod Parcels
-pub mod Places
-pub mod PartsFit
-pub mod Telling
+pub mod FirstRefusals

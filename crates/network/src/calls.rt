@@ -1,15 +1,17 @@
 // The calls that change a network: link up, cost, link down, delivery. Each answers 100, or the lowest refusal that applies,
 // which leaves both tables as they came.
+ghost use mathlib.Core.Bool.{_&&_};
 ghost use mathlib.Core.Path.{_≡_};
-ghost use Prim.Native.Nat.{_<_};
+ghost use Rattle.ground.specs.Limits.{legalCost};
 ghost use Rattle.rules.specs.Network.{up, cost, down, deliver, badEnds};
 ghost use Rattle.rules.specs.NetworkTable.{networkAnswer, wordsAfter, bytesAfter};
-ghost use Rattle.network.specs.Telling.{endsRefusal, upRefusal, costRefusal, linkRefusal, toldBy};
-use crate::fit;
-use crate::queue;
-use crate::table;
-use crate::tell;
-use unit::calls::is_legal_cost;
+ghost use Rattle.network.specs.FirstRefusals.{endsRefusal, linkRefusal, firstRefusal};
+use events::happen;
+use events::tell;
+use fitness::fit;
+use fitness::tables;
+use ground::is_legal_cost;
+use unit::calls::Call;
 
 fn are_bad_ends(count: u32, a: u32, b: u32) -> bool
     ensures { λ r. ⌜ r ≡ badEnds count a b ⌝ }
@@ -36,55 +38,38 @@ fn ends_refusal(words: &[u32], queues: &[u8], a: u32, b: u32) -> u32
     0
 }
 
-// Refusals 2 to 5 of a link up, or 0.
-fn up_refusal(words: &[u32], queues: &[u8], a: u32, b: u32, cost_of_a: u32, cost_of_b: u32) -> u32
-    ensures { λ r. ⌜ r ≡ upRefusal (now (words .entry)) (now (queues .entry)) a b «cost_of_a» «cost_of_b» ⌝ }
+fn are_legal_costs(cost_of_a: u32, cost_of_b: u32) -> bool
+    ensures { λ r. ⌜ r ≡ (legalCost «cost_of_a» && legalCost «cost_of_b») ⌝ }
 {
-    let number = ends_refusal(words, queues, a, b);
-    if number != 0 {
-        return number;
-    }
     if !is_legal_cost(cost_of_a) {
-        return 4;
+        return false;
     }
-    if !is_legal_cost(cost_of_b) {
-        return 4;
-    }
-    if table::is_linked(words, a as usize, b as usize) {
-        return 5;
-    }
-    0
+    is_legal_cost(cost_of_b)
 }
 
-// Refusals 2 to 6 of a cost, or 0.
-fn cost_refusal(words: &[u32], queues: &[u8], a: u32, b: u32, cost: u32) -> u32
-    ensures { λ r. ⌜ r ≡ costRefusal (now (words .entry)) (now (queues .entry)) a b cost ⌝ }
+// Refusal 5 of a call that opens a link that is up, 6 of another about one that is not, or 0.
+fn link_refusal(up: bool, opens: bool) -> u32
+    ensures { λ r. ⌜ r ≡ linkRefusal up opens ⌝ }
+{
+    if opens {
+        if up { 5 } else { 0 }
+    } else {
+        if up { 0 } else { 6 }
+    }
+}
+
+// Refusals 2 to 6 of a call about the link between a and b, or 0: whether its costs are legal, and whether it opens the link.
+fn first_refusal(words: &[u32], queues: &[u8], a: u32, b: u32, legal: bool, opens: bool) -> u32
+    ensures { λ r. ⌜ r ≡ firstRefusal (now (words .entry)) (now (queues .entry)) a b legal opens ⌝ }
 {
     let number = ends_refusal(words, queues, a, b);
     if number != 0 {
         return number;
     }
-    if !is_legal_cost(cost) {
+    if !legal {
         return 4;
     }
-    if !table::is_linked(words, a as usize, b as usize) {
-        return 6;
-    }
-    0
-}
-
-// Refusals 2, 3 and 6 of a call about a link that is up, or 0.
-fn link_refusal(words: &[u32], queues: &[u8], a: u32, b: u32) -> u32
-    ensures { λ r. ⌜ r ≡ linkRefusal (now (words .entry)) (now (queues .entry)) a b ⌝ }
-{
-    let number = ends_refusal(words, queues, a, b);
-    if number != 0 {
-        return number;
-    }
-    if !table::is_linked(words, a as usize, b as usize) {
-        return 6;
-    }
-    0
+    link_refusal(tables::is_linked(words, a as usize, b as usize), opens)
 }
 
 // The link between a and b comes up, at one cost from a to b and another from b to a: an event at each end.
@@ -101,22 +86,28 @@ pub extern "C" fn network_up(
     ensures words { λ r. ⌜ now (words .exit) ≡ wordsAfter (now (words .entry)) (now (queues .entry)) (up a b «cost_of_a» «cost_of_b») ⌝ }
     ensures queues { λ r. ⌜ now (queues .exit) ≡ bytesAfter (now (words .entry)) (now (queues .entry)) (up a b «cost_of_a» «cost_of_b») ⌝ }
 {
-    let number = up_refusal(words, queues, a, b, cost_of_a, cost_of_b);
+    let number = first_refusal(
+        words,
+        queues,
+        a,
+        b,
+        are_legal_costs(cost_of_a, cost_of_b),
+        true,
+    );
     if number != 0 {
         return number;
     }
-    let count = words[0] as usize;
-    let one = tell::up(words, a as usize, b, cost_of_a);
-    let two = tell::up(words, b as usize, a, cost_of_b);
-    if !tell::has_room(queues, count, a as usize, one) {
-        return 13;
-    }
-    if !tell::has_room(queues, count, b as usize, two) {
-        return 13;
-    }
-    tell::happens(words, queues, count, a as usize, one);
-    tell::happens(words, queues, count, b as usize, two);
-    100
+    let call_a = Call::Up {
+        to: b,
+        cost: cost_of_a,
+    };
+    let call_b = Call::Up {
+        to: a,
+        cost: cost_of_b,
+    };
+    let one = tell::tell(words, a, call_a);
+    let two = tell::tell(words, b, call_b);
+    happen::at_both(words, queues, a, one, b, two, false)
 }
 
 // The cost from a to its neighbour b changes: an event at a only.
@@ -132,17 +123,16 @@ pub extern "C" fn network_cost(
     ensures words { λ r. ⌜ now (words .exit) ≡ wordsAfter (now (words .entry)) (now (queues .entry)) (cost a b «new_cost») ⌝ }
     ensures queues { λ r. ⌜ now (queues .exit) ≡ bytesAfter (now (words .entry)) (now (queues .entry)) (cost a b «new_cost») ⌝ }
 {
-    let number = cost_refusal(words, queues, a, b, new_cost);
+    let number = first_refusal(words, queues, a, b, is_legal_cost(new_cost), false);
     if number != 0 {
         return number;
     }
-    let count = words[0] as usize;
-    let told = tell::cost(words, a as usize, b, new_cost);
-    if !tell::has_room(queues, count, a as usize, told) {
-        return 13;
-    }
-    tell::happens(words, queues, count, a as usize, told);
-    100
+    let call = Call::Cost {
+        to: b,
+        cost: new_cost,
+    };
+    let told = tell::tell(words, a, call);
+    happen::at_one(words, queues, b, a, told, false)
 }
 
 // The link between a and b goes down: both its queues are emptied, and each end has its event.
@@ -152,24 +142,13 @@ pub extern "C" fn network_down(words: &mut [u32], queues: &mut [u8], a: u32, b: 
     ensures words { λ r. ⌜ now (words .exit) ≡ wordsAfter (now (words .entry)) (now (queues .entry)) (down a b) ⌝ }
     ensures queues { λ r. ⌜ now (queues .exit) ≡ bytesAfter (now (words .entry)) (now (queues .entry)) (down a b) ⌝ }
 {
-    let number = link_refusal(words, queues, a, b);
+    let number = first_refusal(words, queues, a, b, true, false);
     if number != 0 {
         return number;
     }
-    let count = words[0] as usize;
-    let one = tell::down(words, a as usize, b);
-    let two = tell::down(words, b as usize, a);
-    if !tell::has_room(queues, count, a as usize, one) {
-        return 13;
-    }
-    if !tell::has_room(queues, count, b as usize, two) {
-        return 13;
-    }
-    queue::clear(queues, a as usize, b as usize);
-    queue::clear(queues, b as usize, a as usize);
-    tell::happens(words, queues, count, a as usize, one);
-    tell::happens(words, queues, count, b as usize, two);
-    100
+    let one = tell::tell(words, a, Call::Down { to: b });
+    let two = tell::tell(words, b, Call::Down { to: a });
+    happen::at_both(words, queues, a, one, b, two, true)
 }
 
 // The first message in the queue from a to b reaches b.
@@ -179,24 +158,13 @@ pub extern "C" fn network_deliver(words: &mut [u32], queues: &mut [u8], a: u32, 
     ensures words { λ r. ⌜ now (words .exit) ≡ wordsAfter (now (words .entry)) (now (queues .entry)) (deliver a b) ⌝ }
     ensures queues { λ r. ⌜ now (queues .exit) ≡ bytesAfter (now (words .entry)) (now (queues .entry)) (deliver a b) ⌝ }
 {
-    let number = link_refusal(words, queues, a, b);
+    let number = first_refusal(words, queues, a, b, true, false);
     if number != 0 {
         return number;
     }
-    let queue = queue::load(queues, a as usize, b as usize);
-    if queue[0] == 0 {
-        return 8;
-    }
-    let length = 4 + 4 * (queue[3] as usize);
-    let told = tell::message(words, b as usize, a, &queue[..length]);
+    let told = tell::tell_first(words, queues, a, b);
     if told.answer < 100 {
         return told.answer;
     }
-    let count = words[0] as usize;
-    if !tell::has_room(queues, count, b as usize, told) {
-        return 13;
-    }
-    queue::pop(queues, a as usize, b as usize);
-    tell::happens(words, queues, count, b as usize, told);
-    100
+    happen::at_one(words, queues, a, b, told, true)
 }

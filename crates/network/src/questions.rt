@@ -1,69 +1,20 @@
 // The fresh network, and questions to a network's tables. A question changes nothing: 2 where the tables are not fit, 3 for
 // a number that is no unit, else 100 plus the value, and the largest number for unreachable.
 ghost use mathlib.Core.Path.{_≡_};
-ghost use Prim.Native.Nat.{_≤_, _<_};
-ghost use lib.ListN.{length};
-ghost use Rattle.ground.specs.Limits.{unitLimit};
-ghost use Rattle.ground.specs.Rows.{zeros};
 ghost use Rattle.rules.specs.Hub.{hubAnswer};
-ghost use Rattle.rules.specs.Network.{fresh};
 ghost use Rattle.rules.specs.NetworkTable.{freshNetworkRefusal, freshWords, freshBytes, unitRefusal, pairRefusal, stateAnswer, distanceBetween, feasibleBetween, successorsBetween};
-ghost use Rattle.rules.specs.Tables.{networkWords, laidUnit, laidUnits};
-ghost use Rattle.rules.specs.Unit.{freshUnit};
-ghost use Rattle.network.specs.Asking.{rowAt};
-use crate::fit;
-use crate::table;
+ghost use Rattle.network.specs.Asking.{rowAt, askedBetween};
+use crate::fresh;
+use fitness::fit;
+use fitness::tables;
 use ground::NETWORK_BYTES;
 use ground::NETWORK_WORDS;
 use ground::UNIT_WORDS;
 use ground::UNITS;
-use unit::questions;
-use unit::questions::Row;
-
-// Zeros over all numbers.
-fn clear_numbers(words: &mut [u32])
-    ensures { λ r. ⌜ now (words .exit) ≡ zeros (length (now (words .entry))) ⌝ }
-{
-    let mut i = 0;
-    while i < words.len() {
-        words[i] = 0;
-        i += 1;
-    }
-}
-
-// Zeros over all bytes.
-fn clear_bytes(bytes: &mut [u8])
-    ensures { λ r. ⌜ now (bytes .exit) ≡ zeros (length (now (bytes .entry))) ⌝ }
-{
-    let mut i = 0;
-    while i < bytes.len() {
-        bytes[i] = 0;
-        i += 1;
-    }
-}
-
-// The fresh unit's table.
-fn fresh_table(count: u32, i: u32) -> [u32; UNIT_WORDS]
-    requires { ⌜ (2 ≤ count) × (count ≤ unitLimit) × (i < count) ⌝ }
-    ensures { λ r. ⌜ r ≡ laidUnit (freshUnit count i) ⌝ }
-{
-    let mut table = [0u32; UNIT_WORDS];
-    let _ = questions::fresh(count, i, &mut table);
-    table
-}
-
-// The tables of fresh units, over zeros.
-fn fresh_units(words: &mut [u32], count: u32)
-    requires { ⌜ (2 ≤ count) × (count ≤ unitLimit) × (now words ≡ zeros networkWords) ⌝ }
-    ensures { λ r. ⌜ now (words .exit) ≡ laidUnits (fresh count) ⌝ }
-{
-    let mut i: u32 = 0;
-    while i < count {
-        let table = fresh_table(count, i);
-        table::put(words, i as usize, table);
-        i += 1;
-    }
-}
+use queues::slices;
+use state::questions;
+use state::questions::Question;
+use state::questions::Row;
 
 #[no_mangle]
 pub extern "C" fn network_fresh(count: u32, words: &mut [u32], queues: &mut [u8]) -> u32
@@ -83,9 +34,9 @@ pub extern "C" fn network_fresh(count: u32, words: &mut [u32], queues: &mut [u8]
     if queues.len() != NETWORK_BYTES {
         return 2;
     }
-    clear_numbers(words);
-    clear_bytes(queues);
-    fresh_units(words, count);
+    tables::clear(words);
+    slices::clear(queues);
+    fresh::fresh_units(words, count);
     100
 }
 
@@ -127,40 +78,37 @@ pub extern "C" fn network_state(words: &[u32], queues: &[u8], i: u32) -> u32
     questions::active(&words[from..from + UNIT_WORDS])
 }
 
-#[no_mangle]
-pub extern "C" fn network_distance(words: &[u32], queues: &[u8], i: u32, j: u32) -> u32
-    ensures { λ r. ⌜ r ≡ distanceBetween (now (words .entry)) (now (queues .entry)) i j ⌝ }
+// A question to unit i about unit j.
+fn asked(words: &[u32], queues: &[u8], i: u32, j: u32, question: Question) -> u32
+    ensures { λ r. ⌜ r ≡ askedBetween question (now (words .entry)) (now (queues .entry)) i j ⌝ }
 {
     let number = pair_refusal(words, queues, i, j);
     if number != 0 {
         return number;
     }
     let from = i as usize * UNIT_WORDS;
-    questions::distance(&words[from..from + UNIT_WORDS], j)
+    questions::ask(&words[from..from + UNIT_WORDS], question, j)
+}
+
+#[no_mangle]
+pub extern "C" fn network_distance(words: &[u32], queues: &[u8], i: u32, j: u32) -> u32
+    ensures { λ r. ⌜ r ≡ distanceBetween (now (words .entry)) (now (queues .entry)) i j ⌝ }
+{
+    asked(words, queues, i, j, Question::Distance)
 }
 
 #[no_mangle]
 pub extern "C" fn network_feasible(words: &[u32], queues: &[u8], i: u32, j: u32) -> u32
     ensures { λ r. ⌜ r ≡ feasibleBetween (now (words .entry)) (now (queues .entry)) i j ⌝ }
 {
-    let number = pair_refusal(words, queues, i, j);
-    if number != 0 {
-        return number;
-    }
-    let from = i as usize * UNIT_WORDS;
-    questions::feasible(&words[from..from + UNIT_WORDS], j)
+    asked(words, queues, i, j, Question::Feasible)
 }
 
 #[no_mangle]
 pub extern "C" fn network_successors(words: &[u32], queues: &[u8], i: u32, j: u32) -> u32
     ensures { λ r. ⌜ r ≡ successorsBetween (now (words .entry)) (now (queues .entry)) i j ⌝ }
 {
-    let number = pair_refusal(words, queues, i, j);
-    if number != 0 {
-        return number;
-    }
-    let from = i as usize * UNIT_WORDS;
-    questions::successors(&words[from..from + UNIT_WORDS], j)
+    asked(words, queues, i, j, Question::Successors)
 }
 
 // All questions about unit i at once, with one test of the tables.

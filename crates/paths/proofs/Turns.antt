@@ -21,7 +21,7 @@ use Rattle.rules.specs.Tracer.{pathLaid}
 use Rattle.rules.specs.Unit.{isSuccessor, successors, successorSet}
 use Rattle.rules.proofs.Fit.{fit-tables-of, fit-network-shaped}
 use Rattle.rules.proofs.Laid.{ShapedNetwork, unit-part, network-lays-back}
-use Rattle.unit.proofs.Answers.{set-at-place}
+use Rattle.state.proofs.Answers.{set-at-place}
 use Rattle.paths.specs.Tracing.{unitsIn, endedAs, tracedAs, Traceable, EndsAs, LaysPath}
 use Rattle.paths.proofs.Sets.{units-of-bits, none-alike, rising-under}
 

@@ -8,9 +8,9 @@ ghost use Rattle.ground.specs.Rows.{at};
 ghost use Rattle.rules.specs.NetworkTable.{traceTableRefusal, pathAfter};
 ghost use Rattle.rules.specs.Tracer.{chosen as chosenFrom};
 ghost use Rattle.paths.specs.Tracing.{unitsIn, Traceable, EndsAs, LaysPath, traceAnswer, traceNumber};
+use fitness::fit;
 use ground::UNIT_WORDS;
-use network::fit;
-use unit::held::SUCCESSORS;
+use state::held::SUCCESSORS;
 
 // How a path ended, each time with the hops; or the refusal's number.
 pub enum Traced {

@@ -5,8 +5,10 @@
 // are written out once they take more than half of it, before each read, so that who types the script sees them, and at
 // the end. All else that is kept are the network's two tables and the input, so the memory is fixed, however long the
 // script is.
-ghost use mathlib.Core.Path.{_≡_};
-ghost use Prim.Native.Nat.{_≤_};
+//
+// A turn takes the rest of a line from the input, or reads more of it, and then answers the line if it is whole. So the
+// functions that read know nothing of the tables, and the one that answers nothing of the input.
+ghost use Prim.Native.Nat.{_≤_, _<_};
 ghost use lib.ListN.{length};
 use ground::NETWORK_BYTES;
 use ground::NETWORK_WORDS;
@@ -14,6 +16,7 @@ use libc::STDIN_FILENO;
 use libc::STDOUT_FILENO;
 use script::answer;
 use script::answer::ANSWER_ROOM;
+use script::answer::ANSWERED;
 
 const LINE_ROOM: usize = 64;
 
@@ -21,11 +24,22 @@ const INPUT_ROOM: usize = 65536;
 
 const OUT_ROOM: usize = 2 * ANSWER_ROOM;
 
-// The bytes of the line so far, the bytes of answers that wait to be written, and whether to go on.
+// The place in the input that is next, and the bytes in it; the bytes of the line so far, and whether it is whole; the bytes
+// of answers that wait to be written; and whether to go on.
 struct Progress {
+    at: usize,
+    filled: usize,
     held: usize,
+    whole: bool,
     used: usize,
     going: bool,
+}
+
+// The same of the line alone.
+struct Taken {
+    at: usize,
+    held: usize,
+    whole: bool,
 }
 
 // Writes answers out, and says whether that was done.
@@ -37,100 +51,55 @@ fn write_out(answers: &[u8]) -> bool {
     is_written
 }
 
-// Answers a line behind the answers that wait; its number is 100 plus its bytes. Where answers could not be written,
-// nothing more is said.
-fn say(words: &mut [u32], queues: &mut [u8], line: &[u8], used: usize, out: &mut [u8]) -> Progress
-    requires { ⌜ used ≤ length (now out) ⌝ }
-    ensures { λ r. ⌜ (r .held ≡ 0) × (r .used ≤ length (now (out .exit))) ⌝ }
+// Keeps a byte of a line, if there is room; answers the bytes held then.
+fn keep(line: &mut [u8], held: usize, byte: u8) -> usize
+    requires { ⌜ held ≤ length (now line) ⌝ }
+    ensures { λ r. ⌜ r ≤ length (now (line .exit)) ⌝ }
 {
-    let number = answer::answer(words, queues, line, &mut out[used..]);
-    let all = used + io::count(number as isize - 100, &out[used..]);
-    if all <= ANSWER_ROOM {
-        return Progress {
-            held: 0,
-            used: all,
-            going: true,
-        };
-    }
-    let going = write_out(&out[..all]);
-    Progress {
-        held: 0,
-        used: 0,
-        going,
-    }
-}
-
-// One byte of the script.
-fn take(
-    words: &mut [u32],
-    queues: &mut [u8],
-    line: &mut [u8],
-    progress: Progress,
-    byte: u8,
-    out: &mut [u8],
-) -> Progress
-    requires { ⌜ (progress .held ≤ length (now line)) × (progress .used ≤ length (now out)) ⌝ }
-    ensures { λ r. ⌜ (r .held ≤ length (now (line .exit))) × (r .used ≤ length (now (out .exit))) ⌝ }
-{
-    let held = progress.held;
-    let used = progress.used;
-    if byte == b'\n' {
-        return say(words, queues, &line[..held], used, out);
-    }
     if held < line.len() {
         line[held] = byte;
-        return Progress {
-            held: held + 1,
-            used,
-            going: true,
-        };
+        return held + 1;
     }
-    progress
+    held
 }
 
-// The bytes of one read.
-fn take_all(
-    words: &mut [u32],
-    queues: &mut [u8],
-    line: &mut [u8],
-    held: usize,
-    input: &[u8],
-    out: &mut [u8],
-) -> Progress
-    requires { ⌜ held ≤ length (now line) ⌝ }
-    ensures { λ r. ⌜ (r .held ≤ length (now (line .exit))) × (r .used ≤ length (now (out .exit))) ⌝ }
+// Takes bytes of the input from a place on, up to a newline.
+fn take(line: &mut [u8], input: &[u8], from: usize, before: usize) -> Taken
+    requires { ⌜ before ≤ length (now line) ⌝ }
+    ensures { λ r. ⌜ r .held ≤ length (now (line .exit)) ⌝ }
 {
-    let mut progress = Progress {
+    let mut at = from;
+    let mut held = before;
+    while at < input.len() {
+        if input[at] == b'\n' {
+            return Taken {
+                at: at + 1,
+                held,
+                whole: true,
+            };
+        }
+        held = keep(line, held, input[at]);
+        at += 1;
+    }
+    Taken {
+        at,
         held,
-        used: 0,
-        going: true,
-    };
-    let mut i = 0;
-    while i < input.len() && progress.going {
-        progress = take(words, queues, line, progress, input[i], out);
-        i += 1;
+        whole: false,
     }
-    progress
 }
 
-// The answers that wait are written; then one read, and what it brings. At the end of the input, or where the answers could
-// not be written, there is no going on.
-fn turn(
-    words: &mut [u32],
-    queues: &mut [u8],
-    line: &mut [u8],
-    progress: Progress,
-    input: &mut [u8],
-    out: &mut [u8],
-) -> Progress
-    requires { ⌜ (progress .held ≤ length (now line)) × (progress .used ≤ length (now out)) ⌝ }
-    ensures { λ r. ⌜ (r .held ≤ length (now (line .exit))) × (r .used ≤ length (now (out .exit))) ⌝ }
+// Writes the answers that wait, and then reads once. At the end of the input, or where the answers could not be written, there
+// is no going on; the line is then whole if it has a byte.
+fn refill(input: &mut [u8], held: usize, out: &[u8], used: usize) -> Progress
+    requires { ⌜ used ≤ length (now out) ⌝ }
+    ensures { λ r. ⌜ (r .filled ≤ length (now (input .exit))) × (r .held ≤ held) × (r .used ≤ used) ⌝ }
 {
-    let held = progress.held;
-    let used = progress.used;
     if !write_out(&out[..used]) {
         return Progress {
+            at: 0,
+            filled: 0,
             held: 0,
+            whole: false,
             used: 0,
             going: false,
         };
@@ -139,41 +108,144 @@ fn turn(
     let n = io::count(got, input);
     if n == 0 {
         return Progress {
+            at: 0,
+            filled: 0,
             held,
+            whole: 0 < held,
             used: 0,
             going: false,
         };
     }
-    take_all(words, queues, line, held, &input[..n], out)
+    Progress {
+        at: 0,
+        filled: n,
+        held,
+        whole: false,
+        used: 0,
+        going: true,
+    }
 }
 
-// The last line, where it has no newline, and the answers that still wait.
-fn finish(words: &mut [u32], queues: &mut [u8], line: &[u8], used: usize, out: &mut [u8])
-    requires { ⌜ used ≤ length (now out) ⌝ }
+// The rest of a line from the input; where that is used up, more of it is read.
+fn step(line: &mut [u8], input: &mut [u8], out: &[u8], progress: Progress) -> Progress
+    requires { ⌜ (progress .held ≤ length (now line)) × (progress .filled ≤ length (now input)) × (progress .used ≤ length (now out)) ⌝ }
+    ensures line { λ r. ⌜ r .held ≤ length (now (line .exit)) ⌝ }
+    ensures input { λ r. ⌜ r .filled ≤ length (now (input .exit)) ⌝ }
+    ensures used { λ r. ⌜ r .used ≤ progress .used ⌝ }
 {
-    if line.len() == 0 {
-        write_out(&out[..used]);
-        return;
+    let filled = progress.filled;
+    let used = progress.used;
+    let taken = take(line, &input[..filled], progress.at, progress.held);
+    if taken.whole {
+        return Progress {
+            at: taken.at,
+            filled,
+            held: taken.held,
+            whole: true,
+            used,
+            going: true,
+        };
     }
-    let progress = say(words, queues, line, used, out);
-    let all = progress.used;
-    write_out(&out[..all]);
+    refill(input, taken.held, out, used)
+}
+
+// Where an answer ends that begins at `used` and has that number, ANSWERED plus its bytes; at the end at the latest.
+fn end_of(used: usize, number: u32, room: usize) -> usize
+    requires { ⌜ used ≤ room ⌝ }
+    ensures { λ r. ⌜ r ≤ room ⌝ }
+{
+    if number < ANSWERED {
+        return used;
+    }
+    let bytes = (number - ANSWERED) as usize;
+    if room - used < bytes {
+        return room;
+    }
+    used + bytes
+}
+
+// A line is answered: the next one begins. The answers are written if they take more than half of their room, or if there is
+// no going on.
+fn settle(progress: Progress, out: &[u8], all: usize) -> Progress
+    requires { ⌜ all ≤ length (now out) ⌝ }
+    ensures { λ r. ⌜ (r .held ≤ progress .held) × (r .filled ≤ progress .filled) × (r .used ≤ all) ⌝ }
+{
+    let mut going = progress.going;
+    if going {
+        if all <= ANSWER_ROOM {
+            return Progress {
+                at: progress.at,
+                filled: progress.filled,
+                held: 0,
+                whole: false,
+                used: all,
+                going: true,
+            };
+        }
+    }
+    let is_written = write_out(&out[..all]);
+    if !is_written {
+        going = false;
+    }
+    Progress {
+        at: progress.at,
+        filled: progress.filled,
+        held: 0,
+        whole: false,
+        used: 0,
+        going,
+    }
+}
+
+// Answers the line, if it is whole, behind the answers that wait.
+fn say(
+    words: &mut [u32],
+    queues: &mut [u8],
+    line: &[u8],
+    out: &mut [u8],
+    progress: Progress,
+) -> Progress
+    requires { ⌜ (progress .held ≤ length (now line)) × (progress .used ≤ length (now out)) ⌝ }
+    ensures kept { λ r. ⌜ (r .held ≤ progress .held) × (r .filled ≤ progress .filled) ⌝ }
+    ensures out { λ r. ⌜ r .used ≤ length (now (out .exit)) ⌝ }
+{
+    if !progress.whole {
+        return progress;
+    }
+    let held = progress.held;
+    let used = progress.used;
+    let number = answer::answer(words, queues, &line[..held], &mut out[used..]);
+    let all = end_of(used, number, out.len());
+    settle(progress, out, all)
+}
+
+// The turns that are left after one: none where there is no going on.
+fn left(turns: u64, going: bool) -> u64
+    requires { ⌜ 0 < turns ⌝ }
+    ensures { λ r. ⌜ r < turns ⌝ }
+{
+    if going {
+        return turns - 1;
+    }
+    0
 }
 
 // The whole script. A proved loop has to end: it counts down from a number that no run uses up.
 fn run(words: &mut [u32], queues: &mut [u8], line: &mut [u8], input: &mut [u8], out: &mut [u8]) {
     let mut progress = Progress {
+        at: 0,
+        filled: 0,
         held: 0,
+        whole: false,
         used: 0,
         going: true,
     };
     let mut turns = u64::MAX;
-    while turns > 0 && progress.going {
-        progress = turn(words, queues, line, progress, input, out);
-        turns -= 1;
+    while 0 < turns {
+        let found = step(line, input, out, progress);
+        progress = say(words, queues, line, out, found);
+        turns = left(turns, progress.going);
     }
-    let held = progress.held;
-    finish(words, queues, &line[..held], progress.used, out);
 }
 
 fn main() {

@@ -1,6 +1,6 @@
 -- The figures P1 to P12, as one table: on the left what the definitions compute, on the right what document 01 says.
 -- `figures` states that the two columns are the same.
-use Prim.Native.Nat.{ℕ, zero, suc}
+use Prim.Native.Nat.{ℕ}
 use mathlib.Core.Path.{_≡_, refl}
 use mathlib.Core.List.{List, [], _∷_, _++_, map}
 use lib.ListN.{length, drop}
@@ -10,10 +10,10 @@ use Rattle.ground.specs.Rows.{at}
 use Rattle.tree.specs.Recompute.{throughNeighbours, preferred, takenLinks, treeOver, shortestTree, recomputed}
 use Rattle.tree.specs.Shortest.{shortestWithin}
 use Rattle.tree.specs.Tree.{distanceWithin, isTree}
-use Rattle.rules.specs.Event.{lowered, isAlone, isSentUpdate, differencesFor, newAwaited, messageTo, reactionWith, changesNothing, changed, noted, newTree, newFeasible, reaction, messageRefusal}
+use Rattle.rules.specs.Event.{isAlone, isSentUpdate, differencesFor, newAwaited, messageTo, reactionBy, changesNothing, changed, noted, newTree, newFeasible, reaction, messageRefusal}
 use Rattle.rules.specs.Message.{bodyBytes, differences, applied, written}
 use Rattle.rules.specs.Network.{withQueue, reacted, happens, overflows, stepTo, badEnds, Network, Call, up, cost, down, deliver, unitAt, queue, nextMessage, fresh, freshRefusal, outcome, refusalOf, callRefusal, step}
-use Rattle.rules.specs.Tracer.{Trace, Ending, arrived, stranded, circling, traceFrom, trace, hops}
+use Rattle.rules.specs.Tracer.{Trace, arrived, stranded, circling, traceFrom, trace, hops}
 use Rattle.rules.specs.Unit.{isSuccessor, freshUnit, isActive, successors, ownDistance}
 
 -- A figure: what is found, and what the paper says.
@@ -120,5 +120,5 @@ table =
     ∷ []
 
 pub figures : map (λ f. f .found) table ≡ map (λ f. f .paper) table
-unfolding table two deliveries triangle dearer told answered after answers shows queued bytesAt arrival throughNeighbours preferred takenLinks treeOver shortestTree recomputed shortestWithin distanceWithin isTree noted newTree newFeasible reaction messageRefusal differences applied written fresh outcome refusalOf step traceFrom freshUnit isActive successors isSuccessor withQueue reacted happens overflows stepTo badEnds bodyBytes lowered isAlone isSentUpdate differencesFor newAwaited messageTo reactionWith changesNothing changed
+unfolding table two deliveries triangle dearer told answered after answers shows queued bytesAt arrival throughNeighbours preferred takenLinks treeOver shortestTree recomputed shortestWithin distanceWithin isTree noted newTree newFeasible reaction messageRefusal differences applied written fresh outcome refusalOf step traceFrom freshUnit isActive successors isSuccessor withQueue reacted happens overflows stepTo badEnds bodyBytes isAlone isSentUpdate differencesFor newAwaited messageTo reactionBy changesNothing changed
 figures = refl

@@ -11,6 +11,7 @@ use borrow.Author.Tests.{eqb-false, eq-eqb, ne-eqb}
 use lib.Dec.{eqb}
 use lib.ListN.{length, length-append, List·getD-append}
 use lib.Seq.{getD-at}
+use Rattle.ground.specs.Limits.{unitLimit, changeBase}
 use Rattle.ground.specs.Choice.{if_then_else_}
 use Rattle.ground.specs.Rows.{at}
 use Rattle.tree.specs.Tree.{nothing, isTree}
@@ -71,7 +72,7 @@ told-more n sender changes c told unit other body =
         let b : at (changes ++ (c ∷ [])) (i - 1) ≡ at changes (i - 1) = at-earlier (i - 1) (omega arith) in
         record { unit = rw e (old .unit); other = rw e (old .other); rising = rw (e, b) (old .rising); body = rw e (old .body) }
 
-module _ (n me : ℕ) (old new : List ℕ) (few : n ≤ 255) (own : me < n) (o : isTree n me old ≡ true) (w : isTree n me new ≡ true) where
+module _ (n me : ℕ) (old new : List ℕ) (few : n ≤ unitLimit) (own : me < n) (o : isTree n me old ≡ true) (w : isTree n me new ≡ true) where
   -- This unit's entry is nothing in both.
   own-same : at old me ≡ at new me
   own-same = tree-root n me old o own ∙ sym (tree-root n me new w own)
@@ -88,13 +89,13 @@ module _ (n me : ℕ) (old new : List ℕ) (few : n ≤ 255) (own : me < n) (o :
 
   -- The body of an entry is removed, or sets a legal entry.
   body-legal : (j : ℕ) → j < n
-      → (bodyFor (at new j) < 16777216) × ((bodyFor (at new j) ≡ removed) ⊎ LegalSetting n j (bodyFor (at new j)))
+      → (bodyFor (at new j) < changeBase) × ((bodyFor (at new j) ≡ removed) ⊎ LegalSetting n j (bodyFor (at new j)))
   body-legal j l = ⊎-elim none some (tree-entry n me new w j l)
     where
-      none : at new j ≡ nothing → (bodyFor (at new j) < 16777216) × ((bodyFor (at new j) ≡ removed) ⊎ LegalSetting n j (bodyFor (at new j)))
+      none : at new j ≡ nothing → (bodyFor (at new j) < changeBase) × ((bodyFor (at new j) ≡ removed) ⊎ LegalSetting n j (bodyFor (at new j)))
       none z = rw (eq-eqb (at new j) nothing z) (omega arith, inl refl)
 
-      some : TreeEntry n me new j → (bodyFor (at new j) < 16777216) × ((bodyFor (at new j) ≡ removed) ⊎ LegalSetting n j (bodyFor (at new j)))
+      some : TreeEntry n me new j → (bodyFor (at new j) < changeBase) × ((bodyFor (at new j) ≡ removed) ⊎ LegalSetting n j (bodyFor (at new j)))
       some e =
           rw (ne-eqb (at new j) nothing (omega (arith, e .cost))) (
             omega (arith, tree-short n me new w few j l),
@@ -108,7 +109,7 @@ module _ (n me : ℕ) (old new : List ℕ) (few : n ≤ 255) (own : me < n) (o :
   told-below (suc j) h = more (told-below j (omega arith)) (body-legal j h)
     where
       more : Told n me (differences j old new) j
-          → (bodyFor (at new j) < 16777216) × ((bodyFor (at new j) ≡ removed) ⊎ LegalSetting n j (bodyFor (at new j)))
+          → (bodyFor (at new j) < changeBase) × ((bodyFor (at new j) ≡ removed) ⊎ LegalSetting n j (bodyFor (at new j)))
           → Told n me (differences (suc j) old new) (suc j)
       more told body = by (eqb (at old j) (at new j)) refl
         where
@@ -116,7 +117,7 @@ module _ (n me : ℕ) (old new : List ℕ) (few : n ≤ 255) (own : me < n) (o :
               → Told n me (differences j old new ++ (if b then [] else change j (bodyFor (at new j)) ∷ [])) (suc j)
           by true e = rw append-nil (record { each = told .each; below = λ i l. omega (arith, told .below i l) })
           by false e =
-              let short : bodyFor (at new j) < 16777216 = body .0 in
+              let short : bodyFor (at new j) < changeBase = body .0 in
               let unit : unitOf (change j (bodyFor (at new j))) ≡ j = omega arith in
               let rest : bodyOf (change j (bodyFor (at new j))) ≡ bodyFor (at new j) = omega arith in
               let away : j ≢ me = λ q. eqb-false (at old j) (at new j) e (rw q own-same) in

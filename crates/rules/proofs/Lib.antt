@@ -7,6 +7,7 @@ pub mod FitUnit
 pub mod Laid
 pub mod LegalDifferences
 pub mod Noted
+pub mod Reacting
 pub mod TreeEntries
 pub mod Words
 pub mod Written

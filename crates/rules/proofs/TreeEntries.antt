@@ -8,7 +8,7 @@ use mathlib.Core.Logic.{_⊎_, inl, inr, ⊎-elim, _≢_}
 use mathlib.Core.Path.{_≡_, refl}
 use borrow.Author.Tests.{eqb-true, eqb-false, ltb-true, leb-true, not-true}
 use lib.Dec.{eqb, ltb, leb}
-use Rattle.ground.specs.Limits.{far}
+use Rattle.ground.specs.Limits.{unitLimit, far}
 use Rattle.ground.specs.Rows.{at}
 use Rattle.tree.specs.Tree.{nothing, headOf, costOf, distanceWithin, distance, legalEntry, isTree}
 use Rattle.ground.proofs.Lists.{parts}
@@ -57,6 +57,6 @@ module _ (n root : ℕ) (tree : List ℕ) (t : isTree n root tree ≡ true) wher
   pub tree-root : root < n → at tree root ≡ nothing
   tree-root l = ⊎-elim (λ z. z) (λ e. absurd (e .away refl)) (tree-entry root l)
 
-  -- An entry of a tree of at most 255 units is below the body for a removed entry, so an update can carry it.
-  pub tree-short : n ≤ 255 → (j : ℕ) → j < n → at tree j < removed
+  -- An entry of a tree is below the body for a removed entry, so an update can carry it.
+  pub tree-short : n ≤ unitLimit → (j : ℕ) → j < n → at tree j < removed
   tree-short few j l = ⊎-elim (λ z. omega arith) (λ e. omega (arith, e .head)) (tree-entry j l)

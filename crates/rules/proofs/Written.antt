@@ -11,7 +11,7 @@ use lib.ListN.{length, take, drop, length-append, length-drop, length-map, take-
 use lib.ListN.{List·getD-eq-default}
 use lib.Seq.{take-all, drop-drop, drop-at}
 use borrow.Author.Tests.{ltb-true, leb-true, eqb-true, eqb-false, not-true, lt-ltb, le-leb, eq-eqb, ne-eqb}
-use Rattle.ground.specs.Limits.{legalCost, highestCost}
+use Rattle.ground.specs.Limits.{unitLimit, legalCost, highestCost, entryBase}
 use Rattle.ground.specs.Rows.{at, tab, joined}
 use Rattle.ground.proofs.Rows.{length-tab, tab-ext, tab-row, every-at, every-of}
 use Rattle.ground.proofs.Tests.{both-of, either, either-left, either-right, less-or-not, not-of-false}
@@ -154,7 +154,7 @@ units-rise n m legal i l =
 
 -- The three bytes of one body.
 body : ℕ → List ℕ
-body c = c / 65536 % 256 ∷ c / 256 % 256 ∷ c % 256 ∷ []
+body c = c / entryBase % 256 ∷ c / 256 % 256 ∷ c % 256 ∷ []
 
 -- The bodies are laid one after the other.
 bodies : (cs : List ℕ) → bodyBytes cs ≡ joined (map body cs)
@@ -221,7 +221,7 @@ change-back m rest i l =
     let e = length (m .changes) in
     let unit : at bytes (4 + i) ≡ unitOf (at (m .changes) i) = unit-back m rest i l in
     let read = at-from (4 + e + 3 * i) bytes _ (from-body m rest i l .1) in
-    let high : at bytes (4 + e + 3 * i) ≡ at (m .changes) i / 65536 % 256 = read 0 _ (omega arith) in
+    let high : at bytes (4 + e + 3 * i) ≡ at (m .changes) i / entryBase % 256 = read 0 _ (omega arith) in
     let mid : at bytes (5 + e + 3 * i) ≡ at (m .changes) i / 256 % 256 = read 1 _ (omega arith) in
     let low : at bytes (6 + e + 3 * i) ≡ at (m .changes) i % 256 = read 2 _ (omega arith) in
     omega arith
@@ -267,7 +267,7 @@ written-readable n m e =
     of-readable n (written m) (record { start = refl; long = written-length m; legal = rw reads-back e })
 
 -- A change of a legal message fits four bytes.
-pub change-fits : (n : ℕ) (m : Message) → Legal n m → n ≤ 256 → (i : ℕ) → i < length (m .changes)
+pub change-fits : (n : ℕ) (m : Message) → Legal n m → n ≤ unitLimit → (i : ℕ) → i < length (m .changes)
     → at (m .changes) i < 2 ^ 32
 change-fits n m legal h i l = omega (arith, legal .each i l .unit)
 
@@ -281,7 +281,7 @@ body-bytes (c ∷ cs) (suc (suc zero)) = omega arith
 body-bytes (c ∷ cs) (suc (suc (suc i))) = body-bytes cs i
 
 -- The units of a legal message are bytes.
-unit-bytes : (n : ℕ) (m : Message) → Legal n m → n ≤ 256 → Under 256 (map unitOf (m .changes))
+unit-bytes : (n : ℕ) (m : Message) → Legal n m → n ≤ unitLimit → Under 256 (map unitOf (m .changes))
 unit-bytes n m legal h i =
     ⊎-elim
     (λ l. omega (arith, map-at unitOf (m .changes) i 0 0 l, legal .each i l .unit))
@@ -289,7 +289,7 @@ unit-bytes n m legal h i =
     (less-or-not i (length (m .changes)))
 
 -- Every number that a legal message is written as is a byte.
-pub written-bytes : (n : ℕ) (m : Message) → Legal n m → n ≤ 256 → Under 256 (written m)
+pub written-bytes : (n : ℕ) (m : Message) → Legal n m → n ≤ unitLimit → Under 256 (written m)
 unfolding written
 written-bytes n m legal h zero = omega arith
 written-bytes n m legal h (suc zero) = omega arith
@@ -299,12 +299,12 @@ written-bytes n m legal h (suc (suc (suc (suc i)))) =
     under-append 256 (map unitOf (m .changes)) (bodyBytes (m .changes)) (unit-bytes n m legal h) (body-bytes (m .changes)) i
 
 -- The three bytes of a change are those that it is made of.
-digits : (u a b c : ℕ) → a < 256 → b < 256 → c < 256 → body (change u (a * 65536 + b * 256 + c)) ≡ a ∷ b ∷ c ∷ []
+digits : (u a b c : ℕ) → a < 256 → b < 256 → c < 256 → body (change u (a * entryBase + b * 256 + c)) ≡ a ∷ b ∷ c ∷ []
 unfolding body
 digits u a b c p q r =
-    let high : change u (a * 65536 + b * 256 + c) / 65536 % 256 ≡ a = omega arith in
-    let mid : change u (a * 65536 + b * 256 + c) / 256 % 256 ≡ b = omega arith in
-    let low : change u (a * 65536 + b * 256 + c) % 256 ≡ c = omega arith in
+    let high : change u (a * entryBase + b * 256 + c) / entryBase % 256 ≡ a = omega arith in
+    let mid : change u (a * entryBase + b * 256 + c) / 256 % 256 ≡ b = omega arith in
+    let low : change u (a * entryBase + b * 256 + c) % 256 ≡ c = omega arith in
     λ i. high i ∷ mid i ∷ low i ∷ []
 
 module _ (bytes : List ℕ) (small : Under 256 bytes) (e : ℕ) (long : length bytes ≡ writtenLength e) where

@@ -5,7 +5,7 @@ use mathlib.Core.List.{List, [], _∷_, _++_, map}
 use lib.Dec.{eqb, ltb, leb}
 use lib.ListN.{length, set, take, drop}
 use Rattle.ground.specs.Choice.{if_then_else_}
-use Rattle.ground.specs.Limits.{legalCost, legalCount}
+use Rattle.ground.specs.Limits.{legalCost, legalCount, entryBase, changeBase}
 use Rattle.ground.specs.Refusal.{_gives_, _otherwise_}
 use Rattle.ground.specs.Rows.{at, tab, every}
 use Rattle.tree.specs.Tree.{nothing, headOf, costOf}
@@ -13,16 +13,16 @@ use Rattle.tree.specs.Tree.{nothing, headOf, costOf}
 -- A change of one unit's entry is one number, its four bytes in a message: the unit, then "head, cost with the high byte
 -- first; or 255 and cost 0 for a removed entry".
 abbrev pub change : (unit body : ℕ) → ℕ
-change unit body = unit * 16777216 + body
+change unit body = unit * changeBase + body
 
 abbrev pub unitOf : ℕ → ℕ
-unitOf c = c / 16777216
+unitOf c = c / changeBase
 
 abbrev pub bodyOf : ℕ → ℕ
-bodyOf c = c % 16777216
+bodyOf c = c % changeBase
 
 abbrev pub removed : ℕ
-removed = 255 * 65536
+removed = 255 * entryBase
 
 -- The entry that a body sets, and the body that sets an entry.
 abbrev pub entryOf : ℕ → ℕ
@@ -96,7 +96,7 @@ edition = 1
 -- A body's 3 bytes: "head, cost with the high byte first"
 unfoldable pub bodyBytes : List ℕ → List ℕ
 bodyBytes [] = []
-bodyBytes (c ∷ rest) = c / 65536 % 256 ∷ c / 256 % 256 ∷ c % 256 ∷ bodyBytes rest
+bodyBytes (c ∷ rest) = c / entryBase % 256 ∷ c / 256 % 256 ∷ c % 256 ∷ bodyBytes rest
 
 -- "A table of contents first, then the bodies."
 unfoldable pub written : Message → List ℕ
@@ -112,7 +112,7 @@ writtenLength entries = 4 + 4 * entries
 unfoldable pub changeAt : (bytes : List ℕ) (entries i : ℕ) → ℕ
 changeAt bytes entries i =
     change (at bytes (4 + i))
-    (at bytes (4 + entries + 3 * i) * 65536
+    (at bytes (4 + entries + 3 * i) * entryBase
     + at bytes (5 + entries + 3 * i) * 256
     + at bytes (6 + entries + 3 * i))
 

@@ -1,7 +1,7 @@
 -- The network of units with its queues: link up, cost, link down and delivery.
-use Prim.Native.Nat.{ℕ, _-_}
-use mathlib.Core.Bool.{Bool, true, false, not, _&&_, _||_, Bool·beq}
-use mathlib.Core.List.{List, [], _∷_, _++_}
+use Prim.Native.Nat.{ℕ}
+use mathlib.Core.Bool.{Bool, not, _&&_, _||_, Bool·beq}
+use mathlib.Core.List.{List, [], _++_}
 use lib.Dec.{eqb, ltb, leb}
 use lib.ListN.{length, getD, set, drop}
 use Rattle.ground.specs.Choice.{if_then_else_}
@@ -10,7 +10,7 @@ use Rattle.ground.specs.Refusal.{accepted, _gives_, _otherwise_}
 use Rattle.ground.specs.Rows.{tab, every, some}
 use Rattle.rules.specs.Event.{Event, received, linkUp, newCost, linkDown, Reaction, reaction, messageRefusal}
 use Rattle.rules.specs.Message.{Message, legalMessage}
-use Rattle.rules.specs.Unit.{Unit, freshUnit, fitUnit, isNeighbour}
+use Rattle.rules.specs.Unit.{Unit, freshUnit, fitUnit, isNeighbour, isSuccessor, successors}
 
 -- "A queue for each direction of each link: first in, first out". A row of queues for each unit that sends, a queue for
 -- each unit that is sent to, its first message first.
@@ -25,8 +25,21 @@ unitAt net i = getD (net .units) i (freshUnit 0 0)
 abbrev pub queue : Network → (a b : ℕ) → List Message
 queue net a b = getD (getD (net .queues) a []) b []
 
+-- Whether a's end of its link with b is up; and whether the link is. "Link up and link down reach both ends in one step",
+-- so one end tells of both, but for "a link up at one end only", which is unfit.
+abbrev pub isEndUp : Network → (a b : ℕ) → Bool
+isEndUp net a b = isNeighbour (unitAt net a) b
+
 abbrev pub isUp : Network → (a b : ℕ) → Bool
-isUp net a b = isNeighbour (unitAt net a) b
+isUp net a b = isEndUp net a b
+
+-- The successors of unit i for destination j that a path may go on to, over links that are up: whether unit k is one, and
+-- all of them, rising.
+abbrev pub isSuccessorIn : Network → (i j k : ℕ) → Bool
+isSuccessorIn net i j k = isSuccessor (unitAt net i) j k
+
+abbrev pub successorsIn : Network → (i j : ℕ) → List ℕ
+successorsIn net i j = successors (unitAt net i) j
 
 -- "Fresh: all links down, trees and queues empty"; refused with 1 where the "unit count [is] not 2 to 16".
 unfoldable pub fresh : (n : ℕ) → Network
@@ -143,4 +156,4 @@ fitNetwork net =
     legalCount (net .count)
     && every (net .count) (λ i.
     eqb (unitAt net i .count) (net .count) && eqb (unitAt net i .me) i && fitUnit (unitAt net i))
-    && every (net .count) (λ a. every (net .count) (λ b. Bool·beq (isUp net a b) (isUp net b a) && fitQueue net a b))
+    && every (net .count) (λ a. every (net .count) (λ b. Bool·beq (isEndUp net a b) (isEndUp net b a) && fitQueue net a b))

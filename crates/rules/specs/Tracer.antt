@@ -1,14 +1,13 @@
 -- The tracer: following successors from a start to a destination, each chosen by a byte.
 use Prim.Native.Nat.{ℕ, zero, suc, _-_, _%_}
-use mathlib.Core.Bool.{Bool, not, _||_}
+use mathlib.Core.Bool.{not, _||_}
 use mathlib.Core.List.{List, [], _∷_, _++_}
 use lib.Dec.{eqb, ltb}
 use lib.ListN.{length, drop}
 use Rattle.ground.specs.Choice.{if_then_else_}
 use Rattle.ground.specs.Refusal.{_gives_, _otherwise_}
 use Rattle.ground.specs.Rows.{at}
-use Rattle.rules.specs.Network.{Network, unitAt}
-use Rattle.rules.specs.Unit.{successors}
+use Rattle.rules.specs.Network.{Network, successorsIn}
 
 -- "It ends at the destination (arrived) or at a unit without successors (stranded)"; "after the count less one hops, at
 -- a unit that is neither, it answers circling."
@@ -38,15 +37,15 @@ chosen successors choice = at successors (choice % length successors)
 unfoldable pub traceFrom : Network → (destination left i : ℕ) (choices : List ℕ) → Trace
 traceFrom net destination zero i choices =
     if eqb i destination then endsHere arrived i
-    else if eqb (length (successors (unitAt net i) destination)) 0 then endsHere stranded i
+    else if eqb (length (successorsIn net i destination)) 0 then endsHere stranded i
     else endsHere circling i
 traceFrom net destination (suc left) i choices =
     if eqb i destination then endsHere arrived i
-    else if eqb (length (successors (unitAt net i) destination)) 0 then endsHere stranded i
+    else if eqb (length (successorsIn net i destination)) 0 then endsHere stranded i
     else
     goesOn i
     (traceFrom net destination left
-    (chosen (successors (unitAt net i) destination) (at choices 0))
+    (chosen (successorsIn net i destination) (at choices 0))
     (drop 1 choices))
 
 abbrev pub trace : Network → (start destination : ℕ) (choices : List ℕ) → Trace

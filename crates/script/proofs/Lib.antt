@@ -1,10 +1,5 @@
 -- Laws of the script language, and the proofs of its functions.
-pub mod Arguments
-pub mod Decimals
-pub mod Laying
-pub mod Lengths
-pub mod Printing
+pub mod ReadBack
+pub mod Room
 pub mod ShownUnits
-pub mod Spelled
 pub mod Verdicts
-pub mod Words

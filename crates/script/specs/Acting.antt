@@ -1,15 +1,15 @@
 -- A command's call and its answer, and the line that the answer prints.
 use Prim.Native.Nat.{ℕ}
-use mathlib.Core.Bool.{Bool}
 use mathlib.Core.List.{List}
 use lib.Dec.{eqb, leb}
 use Rattle.ground.specs.Choice.{if_then_else_}
 use Rattle.rules.specs.Hub.{hubAnswer}
 use Rattle.rules.specs.Network.{up, cost, down, deliver}
 use Rattle.rules.specs.NetworkTable.{networkAnswer, freshNetworkRefusal}
-use Rattle.script.specs.Answers.{okLine, refusedLine, badLine}
-use Rattle.script.specs.declared.line.Command.{Command}
-use Rattle.script.specs.declared.line.Command.the-variants.{Units, Up, Cost, Down, Deliver, Show, Bad}
+use Rattle.lines.specs.declared.Command.{Command}
+use Rattle.lines.specs.declared.Command.the-variants.{Units, Up, Cost, Down, Deliver, Show, Bad}
+use Rattle.texts.specs.Printed.{okLine, refusedLine, badLine}
+use Rattle.script.specs.Answers.{answerBase}
 
 -- The number of a line that is no command: above every answer of a call.
 abbrev pub badNumber : ℕ
@@ -27,4 +27,4 @@ actNumber words bytes Bad = badNumber
 
 -- What is printed for it.
 abbrev pub saidOf : (number : ℕ) → List ℕ
-saidOf number = if eqb number badNumber then badLine else if leb 100 number then okLine else refusedLine number
+saidOf number = if eqb number badNumber then badLine else if leb answerBase number then okLine else refusedLine number

@@ -1,65 +1,24 @@
 -- What a line prints, and what it leaves of the tables.
-use Prim.Native.Nat.{ℕ, zero, suc, _+_, _*_}
-use mathlib.Core.Bool.{Bool}
-use mathlib.Core.List.{List, [], _∷_, _++_}
+use Prim.Native.Nat.{ℕ, _+_, _*_}
+use mathlib.Core.List.{List, [], _++_}
 use lib.Dec.{eqb, ltb}
 use lib.ListN.{length}
 use Rattle.ground.specs.Choice.{if_then_else_}
-use Rattle.ground.specs.Limits.{far, unitLimit}
+use Rattle.ground.specs.Limits.{unitLimit}
 use Rattle.ground.specs.Refusal.{accepted}
-use Rattle.ground.specs.Rows.{at, tab, joined}
+use Rattle.ground.specs.Rows.{at, tab, joined, laidAfter}
 use Rattle.rules.specs.Network.{Network, unitAt, up, cost, down, deliver}
 use Rattle.rules.specs.NetworkTable.{networkRefusal, wordsAfter, bytesAfter, freshNetworkRefusal, freshWords, freshBytes}
 use Rattle.rules.specs.Tables.{networkFrom, fitTables}
 use Rattle.rules.specs.Unit.{Unit, isActive, ownDistance, isSuccessor}
-use Rattle.unit.specs.Sending.{laidAfter}
-use Rattle.script.specs.Commands.{commandOf}
-use Rattle.script.specs.Texts.{newline, space, comma, hyphen, decimalOf, lineRoom}
-use Rattle.script.specs.Texts.{okWord, refusedWord, badLineWords, unitWord, activeWord, passiveWord}
-use Rattle.script.specs.declared.line.Command.{Command}
-use Rattle.script.specs.declared.line.Command.the-variants.{Units, Up, Cost, Down, Deliver, Show, Bad}
+use Rattle.lines.specs.Commands.{commandOf}
+use Rattle.lines.specs.declared.Command.{Command}
+use Rattle.lines.specs.declared.Command.the-variants.{Units, Up, Cost, Down, Deliver, Show, Bad}
+use Rattle.texts.specs.Printed.{okLine, refusedLine, badLine, stateLine, pairLine, lineRoom}
 
 -- "It prints `ok`, `refused n` or, for any other line, `bad line`."
-abbrev pub refusedLine : (number : ℕ) → List ℕ
-refusedLine number = refusedWord ++ (space ∷ decimalOf number) ++ (newline ∷ [])
-
-abbrev pub okLine : List ℕ
-okLine = okWord ++ (newline ∷ [])
-
-abbrev pub badLine : List ℕ
-badLine = badLineWords ++ (newline ∷ [])
-
 abbrev pub verdict : (refusal : ℕ) → List ℕ
 verdict refusal = if eqb refusal accepted then okLine else refusedLine refusal
-
--- "Show prints for each unit its number and state"
-abbrev pub stateLine : (i : ℕ) (active : Bool) → List ℕ
-stateLine i active =
-    unitWord ++ (space ∷ decimalOf i) ++ (space ∷ (if active then activeWord else passiveWord)) ++ (newline ∷ [])
-
--- "`-` for unreachable or none"
-abbrev pub distanceText : (distance : ℕ) → List ℕ
-distanceText distance = if eqb distance far then hyphen ∷ [] else decimalOf distance
-
--- "successors joined by commas": those below n of which p holds.
-unfoldable pub joinedTo : (n : ℕ) (p : ℕ → Bool) → List ℕ
-joinedTo zero p = []
-joinedTo (suc k) p =
-    let before = joinedTo k p in
-    if p k then before ++ (if eqb (length before) 0 then [] else comma ∷ []) ++ decimalOf k else before
-
-abbrev pub successorsText : (n : ℕ) (p : ℕ → Bool) → List ℕ
-successorsText n p = if eqb (length (joinedTo n p)) 0 then hyphen ∷ [] else joinedTo n p
-
--- "then for each other destination: unit, destination, distance, feasible distance, successors"
-abbrev pub pairLine : (n i j distance feasible : ℕ) (p : ℕ → Bool) → List ℕ
-pairLine n i j distance feasible p =
-    decimalOf i
-    ++ (space ∷ decimalOf j)
-    ++ (space ∷ distanceText distance)
-    ++ (space ∷ distanceText feasible)
-    ++ (space ∷ successorsText n p)
-    ++ (newline ∷ [])
 
 -- The lines of destinations below a number, and all lines of a unit.
 unfoldable pub pairLines : (i : ℕ) (u : Unit) (below : ℕ) → List ℕ
@@ -109,9 +68,13 @@ answerRoom = unitLimit * unitLimit * lineRoom
 abbrev pub answerText : (words bytes line : List ℕ) → List ℕ
 answerText words bytes line = printed words bytes (commandOf line)
 
+-- "100 plus the bytes used": what is not refused answers so.
+abbrev pub answerBase : ℕ
+answerBase = 100
+
 unfoldable pub answerNumber : (words bytes line out : List ℕ) → ℕ
 answerNumber words bytes line out =
-    if ltb (length out) answerRoom then 7 else 100 + length (answerText words bytes line)
+    if ltb (length out) answerRoom then 7 else answerBase + length (answerText words bytes line)
 
 unfoldable pub outAfter : (words bytes line out : List ℕ) → List ℕ
 outAfter words bytes line out =

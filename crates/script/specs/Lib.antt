@@ -1,6 +1,4 @@
--- The script language: texts, the command that a line is, and what is printed.
+-- The script language: what a command does, and what a line prints and leaves of the tables.
 pub mod Acting
 pub mod Answers
-pub mod Commands
 pub mod Showing
-pub mod Texts

@@ -1,22 +1,24 @@
 // What a line does and prints.
 ghost use mathlib.Core.Path.{_≡_};
-ghost use Prim.Native.Nat.{_≤_};
-ghost use lib.ListN.{length};
-ghost use Rattle.script.specs.Answers.{wordsThen, bytesThen, answerRoom, answerNumber, outAfter, wordsAfterLine, bytesAfterLine};
+ghost use Rattle.texts.specs.Putting.{usedAfter, putAfter};
 ghost use Rattle.script.specs.Acting.{actNumber, saidOf};
-ghost use Rattle.unit.specs.Sending.{laidAfter};
-use crate::line;
-use crate::line::Command;
+ghost use Rattle.script.specs.Answers.{printed, wordsThen, bytesThen};
+ghost use Rattle.script.specs.Answers.{answerNumber, outAfter, wordsAfterLine, bytesAfterLine};
 use crate::show;
-use crate::text;
 use ground::UNITS;
+use lines::Command;
 use network::calls;
 use network::questions;
+use texts::LINE_ROOM;
+use texts::text;
 
-// The room for one printed line, and for every answer: a line for each two units.
-const LINE_ROOM: usize = 128;
-
+// The room for every answer: a line for each two units.
 pub const ANSWER_ROOM: usize = UNITS * UNITS * LINE_ROOM;
+
+// The least answer of what is not refused, to which a number is added; the refusal of a buffer without that room.
+pub const ANSWERED: u32 = 100;
+
+const TOO_SHORT: u32 = 7;
 
 // The number of a line that is no command: above every answer of a call.
 const BAD: u32 = 200;
@@ -40,23 +42,34 @@ fn act(words: &mut [u32], queues: &mut [u8], command: Command) -> u32
 
 // The line that a call's answer, or a bad line, prints.
 fn put_verdict(out: &mut [u8], number: u32) -> usize
-    requires { ⌜ answerRoom ≤ length (now out) ⌝ }
-    ensures answer { λ r. ⌜ r ≡ length (saidOf number) ⌝ }
-    ensures out { λ r. ⌜ now (out .exit) ≡ laidAfter 0 (saidOf number) (now (out .entry)) ⌝ }
+    ensures answer { λ r. ⌜ r ≡ usedAfter 0 (saidOf number) (now (out .entry)) ⌝ }
+    ensures out { λ r. ⌜ now (out .exit) ≡ putAfter 0 (saidOf number) (now (out .entry)) ⌝ }
 {
     if number == BAD {
         return text::put_text(out, 0, b"bad line\n");
     }
-    if 100 <= number {
+    if ANSWERED <= number {
         return text::put_text(out, 0, b"ok\n");
     }
-    let then = text::put_text(out, 0, b"refused ");
-    let then = text::put_number(out, then, number);
-    text::put_byte(out, then, b'\n')
+    text::put_refused(out, 0, number)
 }
 
-// Does what a line asks and lays what it prints at the start of `out`; answers 100 plus its bytes, or 7 where `out` has not
-// ANSWER_ROOM places, and then changes nothing.
+// Does what a command asks and puts what it prints at the start of `out`; answers the bytes used.
+fn perform(words: &mut [u32], queues: &mut [u8], command: Command, out: &mut [u8]) -> usize
+    ensures answer { λ r. ⌜ r ≡ usedAfter 0 (printed (now (words .entry)) (now (queues .entry)) command) (now (out .entry)) ⌝ }
+    ensures out { λ r. ⌜ now (out .exit) ≡ putAfter 0 (printed (now (words .entry)) (now (queues .entry)) command) (now (out .entry)) ⌝ }
+    ensures words { λ r. ⌜ now (words .exit) ≡ wordsThen (now (words .entry)) (now (queues .entry)) command ⌝ }
+    ensures queues { λ r. ⌜ now (queues .exit) ≡ bytesThen (now (words .entry)) (now (queues .entry)) command ⌝ }
+{
+    if let Command::Show = command {
+        return show::show(words, queues, out);
+    }
+    let number = act(words, queues, command);
+    put_verdict(out, number)
+}
+
+// Does what a line asks and lays what it prints at the start of `out`; answers ANSWERED plus its bytes, or TOO_SHORT where
+// `out` has not ANSWER_ROOM places, and then changes nothing.
 pub fn answer(words: &mut [u32], queues: &mut [u8], line: &[u8], out: &mut [u8]) -> u32
     ensures answer { λ r. ⌜ r ≡ answerNumber (now (words .entry)) (now (queues .entry)) (now (line .entry)) (now (out .entry)) ⌝ }
     ensures words { λ r. ⌜ now (words .exit) ≡ wordsAfterLine (now (words .entry)) (now (queues .entry)) (now (line .entry)) (now (out .entry)) ⌝ }
@@ -64,12 +77,8 @@ pub fn answer(words: &mut [u32], queues: &mut [u8], line: &[u8], out: &mut [u8])
     ensures out { λ r. ⌜ now (out .exit) ≡ outAfter (now (words .entry)) (now (queues .entry)) (now (line .entry)) (now (out .entry)) ⌝ }
 {
     if out.len() < ANSWER_ROOM {
-        return 7;
+        return TOO_SHORT;
     }
-    let command = line::parse(line);
-    if let Command::Show = command {
-        return 100 + show::show(words, queues, out) as u32;
-    }
-    let number = act(words, queues, command);
-    100 + put_verdict(out, number) as u32
+    let command = lines::parse(line);
+    ANSWERED + perform(words, queues, command, out) as u32
 }

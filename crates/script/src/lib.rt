@@ -1,10 +1,8 @@
 // The script language: a command on each line, over the tables of one network.
 //
-// `line` says which command a line is, `text` lays what is printed into a lent buffer, `show` lays the tables of all units,
-// and `answer` does what a line asks and lays what it prints. A program over it reads lines and writes answers, and keeps
-// nothing but the two tables; tables of zeros, with which it begins, are unfit, so every command before a good `units` is
-// refused with 2.
+// `lines` says which command a line is, and `texts` puts what is printed into a lent buffer. Here `show` puts the tables of
+// all units, and `answer` does what a line asks and lays what it prints. A program over it reads lines and writes answers,
+// and keeps nothing but the two tables; tables of zeros, with which it begins, are unfit, so every command before a good
+// `units` is refused with 2.
 pub mod answer;
-pub mod line;
 mod show;
-mod text;

@@ -3,7 +3,7 @@ use Prim.Native.Nat.{ℕ, _≤_, _<_}
 use native.Mathlib.Omega.{arith}
 use mathlib.Core.List.{List, []}
 use mathlib.Core.Logic.{⊎-elim}
-use mathlib.Core.Path.{_≡_, ap, _∙_}
+use mathlib.Core.Path.{_≡_, refl, ap, _∙_}
 use lib.Dec.{eqb, ltb}
 use Rattle.ground.specs.Choice.{if_then_else_}
 use Rattle.ground.specs.Limits.{far}
@@ -15,7 +15,7 @@ use Rattle.tree.specs.Shortest.{link}
 use Rattle.tree.specs.Tree.{distance}
 
 -- A number in a table of rows.
-cell-at : (n : ℕ) (f : ℕ → ℕ → ℕ) (i j : ℕ) → i < n → j < n → link (tab n (λ k. tab n (f k))) i j ≡ f i j
+pub cell-at : (n : ℕ) (f : ℕ → ℕ → ℕ) (i j : ℕ) → i < n → j < n → link (tab n (λ k. tab n (f k))) i j ≡ f i j
 cell-at n f i j hi hj =
     ap (λ (row : List ℕ). at row j) (tab-at n (λ k. tab n (f k)) i [] hi) ∙ tab-at n (f i) j 0 hj
 
@@ -61,6 +61,12 @@ module _ (n : ℕ) (costs : List ℕ) where
       if eqb i me then (if eqb (at costs j) 0 then far else at costs j)
       else if eqb (at preferences i) n then far
       else copiedLink (copyOf copies (at preferences i)) i j
+
+  -- The table of taken links is made of these.
+  pub taken-is : (me : ℕ) (copies : List (List ℕ)) (preferences : List ℕ)
+      → tab n (λ i. tab n (takenCell me copies preferences i)) ≡ takenLinks n me costs copies preferences
+  unfolding takenLinks
+  taken-is me copies preferences = refl
 
   -- The table of taken links holds it.
   pub taken-at : (me : ℕ) (copies : List (List ℕ)) (preferences : List ℕ) (i j : ℕ) → i < n → j < n

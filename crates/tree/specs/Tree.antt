@@ -7,20 +7,20 @@ use mathlib.Core.List.{List}
 use lib.Dec.{eqb, ltb, leb}
 use lib.ListN.{length}
 use Rattle.ground.specs.Choice.{if_then_else_}
-use Rattle.ground.specs.Limits.{far}
+use Rattle.ground.specs.Limits.{far, entryBase}
 use Rattle.ground.specs.Rows.{at, every}
 
 abbrev pub nothing : ℕ
 nothing = 0
 
 abbrev pub entry : ℕ → ℕ → ℕ
-entry head cost = head * 65536 + cost
+entry head cost = head * entryBase + cost
 
 abbrev pub headOf : ℕ → ℕ
-headOf e = e / 65536
+headOf e = e / entryBase
 
 abbrev pub costOf : ℕ → ℕ
-costOf e = e % 65536
+costOf e = e % entryBase
 
 -- The sum of two distances; unreachable where one of them is.
 abbrev pub plus : ℕ → ℕ → ℕ

@@ -9,7 +9,7 @@ use lib.ListN.{length, getD, take, drop}
 use lib.Seq.{getD-take}
 use Rattle.ground.specs.Choice.{if_then_else_}
 use Rattle.ground.specs.Limits.{unitLimit}
-use Rattle.ground.specs.Rows.{at, tab, filled, filledRows, joined}
+use Rattle.ground.specs.Rows.{at, tab, counted, filled, filledRows, joined, laidAfter}
 use Rattle.tree.specs.Recompute.{throughNeighbours, recomputed}
 use Rattle.tree.specs.Tree.{distance, isTree}
 use Rattle.rules.specs.Event.{changed, isAlone}
@@ -21,18 +21,22 @@ use Rattle.ground.proofs.Filling.{filled-tab-at}
 use Rattle.ground.proofs.Rows.{tab-at, tab-ext}
 use Rattle.tree.proofs.Costs.{through-costs, recomputed-costs}
 use Rattle.rules.proofs.FitUnit.{FitFacts, fit-facts, feasible-far}
-use Rattle.unit.specs.Flat.{LegalCosts, LegalCopies}
-use Rattle.unit.specs.Holding.{unitOf}
+use Rattle.ground.proofs.Limits.{filled-counted}
+use Rattle.recomputing.specs.Flat.{throughIn}
+use Rattle.recomputing.specs.Legal.{LegalCosts, LegalCopies, recomputedFrom}
+use Rattle.recomputing.proofs.CopiedRows.{whole-of, through-whole}
+use Rattle.recomputing.proofs.Recomputing.{recomputed-from}
+use Rattle.state.specs.Holding.{unitOf}
 use Rattle.unit.specs.Reacted.{FitHeld, throughOf, loweringFor, loweredTo, loweredRow, awaitedRow, reactedOf, reactedOut}
-use Rattle.unit.specs.Reacting.{treeBy, loweredBy, feasibleBy, isSentBy, awaitedBy, messageBy, reactionBy}
-use Rattle.unit.specs.Sending.{laidAfter, sentBytes}
-use Rattle.unit.specs.Successors.{setsOver}
+use Rattle.rules.specs.Event.{newTree, lowered, newFeasible, isSentUpdate, newAwaited, messageTo, reactionBy}
+use Rattle.unit.specs.Sending.{sentBytes}
+use Rattle.recomputing.specs.Successors.{setsOver}
 use Rattle.unit.specs.declared.event.Lowering.{Lowering}
 use Rattle.unit.specs.declared.event.Reacted.{Reacted}
-use Rattle.unit.specs.declared.held.Held.{Held}
-use Rattle.unit.proofs.FitAgain.{length-by, tree-by, unitBy, facts-by}
-use Rattle.unit.proofs.HeldFit.{held-shaped}
-use Rattle.unit.proofs.Successors.{sets-held}
+use Rattle.state.specs.declared.held.Held.{Held}
+use Rattle.steps.proofs.FitReaction.{length-by, tree-by, unitBy, facts-by}
+use Rattle.unit.proofs.HeldFit.{held-shaped, held-flat}
+use Rattle.state.proofs.Successors.{sets-held}
 
 module _ (h : Held) where
   -- The unit, and its count.
@@ -67,22 +71,44 @@ module _ (h : Held) where
     pub copies-held : LegalCopies N (h .costs) (U .copies)
     copies-held k l up = facts .copy-up k l (rw (row-at (h .costs) k l) at up)
 
+    -- From these the engine gives the recomputed tree.
+    pub from-held : {through : List (List ℕ)} → through ≡ throughOf U
+        → recomputedFrom N (h .me) (h .costs) (h .copies) through ≡ recomputed N (h .me) (U .costs) (U .copies)
+    from-held {through} e =
+        recomputed-from N (h .me) (h .costs) (h .copies) through (whole-of N (h .copies) (facts .high) (held-flat p)) (facts .me)
+        costs-held copies-held (e ∙ sym through-held)
+        ∙ recomputed-held
+
+    -- The distances through neighbours that it gives.
+    pub through-of : {through : List (List ℕ)} → through ≡ filledRows unitLimit (throughIn N (h .costs) (h .copies)) → through ≡ throughOf U
+    through-of e = e ∙ through-whole N (h .costs) (h .copies) (facts .high) (held-flat p) ∙ through-held
+
+    -- The distances in a tree, and the successor sets.
+    pub distances-of : {row : List ℕ} (tree : List ℕ) → row ≡ filled unitLimit (counted N (tab N (distance N (h .me) (take N tree))))
+        → row ≡ filled unitLimit (tab N (distance N (h .me) (take N tree)))
+    distances-of tree e = e ∙ filled-counted N _ (facts .high)
+
+    pub sets-of : {sets : List ℕ} (through : List (List ℕ)) (feasible : List ℕ)
+        → sets ≡ filled unitLimit (counted N (setsOver N through feasible))
+        → sets ≡ filled unitLimit (setsOver N through feasible)
+    sets-of through feasible e = e ∙ filled-counted N _ (facts .high)
+
     -- The new tree, from the answers of the functions that find it.
     pub tree-composed : (was : Bool) {active kept : Bool} {tree : List ℕ}
         → active ≡ isActive U
         → kept ≡ was && active
         → tree ≡ laidRow (if kept then U .tree else recomputed N (h .me) (U .costs) (U .copies))
-        → tree ≡ laidRow (treeBy U was)
-    unfolding treeBy
+        → tree ≡ laidRow (newTree U was)
+    unfolding newTree
     tree-composed was ea ek et = rw (et, ek, ea)
 
     -- It is read back from its array.
-    tree-held : (was : Bool) (tree : List ℕ) → tree ≡ laidRow (treeBy U was) → take N tree ≡ treeBy U was
+    tree-held : (was : Bool) (tree : List ℕ) → tree ≡ laidRow (newTree U was) → take N tree ≡ newTree U was
     tree-held was tree e =
-        ap (take N) e ∙ take-filled unitLimit (treeBy U was) N (length-by U was (held-shaped p .tree))
+        ap (take N) e ∙ take-filled unitLimit (newTree U was) N (length-by U was (held-shaped p .tree))
 
     -- It is a tree.
-    pub tree-rooted : (was : Bool) (tree : List ℕ) → tree ≡ laidRow (treeBy U was) → isTree N (h .me) (take N tree) ≡ true
+    pub tree-rooted : (was : Bool) (tree : List ℕ) → tree ≡ laidRow (newTree U was) → isTree N (h .me) (take N tree) ≡ true
     tree-rooted was tree e = rw (tree-held was tree e) (tree-by U was facts)
 
   -- Where a feasible distance and the distances in the old and the new tree lead.
@@ -111,13 +137,13 @@ module _ (h : Held) where
     feasible-held
         : filled unitLimit
         (loweredRow N (loweringFor aloneBy was (isActive U)) (h .feasible) (distancesIn (U .tree)) (distancesIn t))
-        ≡ laidRow (feasibleBy U was t)
-    unfolding feasibleBy
+        ≡ laidRow (newFeasible U was t)
+    unfolding newFeasible
     feasible-held =
         ap laidRow
         (tab-ext N
         (λ j. loweredTo how (at (h .feasible) j) (at (distancesIn (U .tree)) j) (at (distancesIn t) j))
-        (λ j. if aloneBy then distance N (h .me) t j else loweredBy U was t j)
+        (λ j. if aloneBy then distance N (h .me) t j else lowered U was t j)
         (λ j l.
         rw (row-at (h .feasible) j l, distance-at (U .tree) j l, distance-at t j l)
         (lowered-to aloneBy was (isActive U) (at (U .feasible) j) (ownDistance U j) (distance N (h .me) t j))))
@@ -135,13 +161,13 @@ module _ (h : Held) where
         → old ≡ distancesIn (U .tree)
         → new ≡ distancesIn t
         → row ≡ filled unitLimit (loweredRow N how (h .feasible) old new)
-        → row ≡ laidRow (feasibleBy U was t)
+        → row ≡ laidRow (newFeasible U was t)
     feasible-composed ea ec el eb eh eo en er = rw (er, eo, en, eh, eb, ec, el, ea) feasible-held
 
     -- The waits.
     awaited-held : (new : ℕ)
-        → filled unitLimit (awaitedRow N (h .costs) (h .awaited) (changed U t) new) ≡ laidRow (awaitedBy U t new)
-    unfolding awaitedBy isSentBy
+        → filled unitLimit (awaitedRow N (h .costs) (h .awaited) (changed U t) new) ≡ laidRow (newAwaited U t new)
+    unfolding newAwaited isSentUpdate
     awaited-held new =
         ap laidRow
         (tab-ext N
@@ -152,7 +178,7 @@ module _ (h : Held) where
   module _ (was : Bool) (new owed : ℕ) where
     -- The new tree.
     abbrev T : List ℕ
-    T = treeBy U was
+    T = newTree U was
 
     -- The bytes of the messages.
     sent-held : outgoing (reactionBy U was new owed) ≡ sentBytes U T new owed
@@ -160,9 +186,9 @@ module _ (h : Held) where
     sent-held =
         ap joined
         (tab-ext N
-        (λ k. outgoingTo k (getD (tab N (messageBy U T new owed)) k []))
-        (λ k. outgoingTo k (messageBy U T new owed k))
-        (λ k l. ap (outgoingTo k) (tab-at N (messageBy U T new owed) k [] l)))
+        (λ k. outgoingTo k (getD (tab N (messageTo U T new owed)) k []))
+        (λ k. outgoingTo k (messageTo U T new owed k))
+        (λ k l. ap (outgoingTo k) (tab-at N (messageTo U T new owed) k [] l)))
 
     -- The buffer.
     buffer-held : (buffer : List ℕ) → laidAfter 0 (sentBytes U T new owed) buffer ≡ reactedOut U was new owed buffer
@@ -181,7 +207,7 @@ module _ (h : Held) where
           → through ≡ throughOf U
           → isChanged ≡ changed U (take N tree)
           → awaited ≡ filled unitLimit (awaitedRow N (h .costs) (h .awaited) isChanged new)
-          → feasible ≡ laidRow (feasibleBy U was (take N tree))
+          → feasible ≡ laidRow (newFeasible U was (take N tree))
           → successors ≡ filled unitLimit (setsOver N through feasible)
           → used ≡ length (sentBytes U (take N tree) new owed)
           → _≡_ {A = Reacted}
@@ -218,10 +244,10 @@ module _ (h : Held) where
           W : Unit
           W = unitBy U was new owed
 
-          waits : awaited ≡ laidRow (awaitedBy U T new)
+          waits : awaited ≡ laidRow (newAwaited U T new)
           waits = rw (ea, ec, back) (awaited-held was T new)
 
-          near : feasible ≡ laidRow (feasibleBy U was T)
+          near : feasible ≡ laidRow (newFeasible U was T)
           near = rw (ef, back)
 
           sets : successors ≡ laidRow (tab N (successorSet W))

@@ -1,22 +1,9 @@
 -- Laws that several proofs of this crate cite.
-pub mod Answers
 pub mod Calling
-pub mod Choosing
-pub mod Composed
-pub mod Copies
-pub mod FitAgain
-pub mod Fitness
-pub mod Fresh
-pub mod HeldFit
-pub mod Holding
+mod Composed
+mod HeldFit
 pub mod MessageCalls
-pub mod Noted
-pub mod Reacting
-pub mod Recomputing
+mod Noted
 pub mod Refusals
-pub mod Rounds
-pub mod Scanning
-pub mod Sending
-pub mod SendingAll
-pub mod Settled
-pub mod Successors
+mod Sending
+mod SendingAll

@@ -28,7 +28,7 @@ use Rattle.message.specs.declared.reader.Reading.{Reading}
 use Rattle.ground.proofs.Filled.{take-filled}
 use Rattle.ground.proofs.Limits.{count-legal}
 use Rattle.ground.proofs.Lists.{parts}
-use Rattle.ground.proofs.Refusal.{gives-none, otherwise-none}
+use Rattle.ground.proofs.Refusal.{gives-none, otherwise-none, first-counts, rest-counts, in-a-row}
 use Rattle.ground.proofs.Tests.{both, both-of, neither, not-both, and-false, if-true, if-false}
 use Rattle.rules.proofs.Applied.{applied-filled, changes-nothing-filled, length-applied, noted-shaped}
 use Rattle.rules.proofs.Fit.{fit-unit-shaped}
@@ -37,17 +37,18 @@ use Rattle.rules.proofs.Laid.{ShapedUnit}
 use Rattle.rules.proofs.Noted.{received-fit}
 use Rattle.rules.proofs.Written.{legal-of, readable-of}
 use Rattle.message.proofs.Readings.{is-readable, not-readable}
-use Rattle.unit.specs.Calls.{contentRefusal}
-use Rattle.unit.specs.Holding.{heldOf, unitOf}
+use Rattle.unit.specs.Calls.{contentRefusal, notedBy}
+use Rattle.unit.specs.declared.calls.Call.the-variants.{Message as FromNeighbour}
+use Rattle.unit.specs.declared.calls.Noted.{Noted}
+use Rattle.state.specs.Holding.{heldOf, unitOf}
 use Rattle.unit.specs.Noting.{Padded, UnitsBelow}
 use Rattle.unit.specs.Reacted.{FitHeld}
-use Rattle.unit.specs.Reacting.{reactionBy, owedOf}
-use Rattle.unit.specs.declared.held.Held.{Held}
+use Rattle.rules.specs.Event.{reactionBy, owedOf}
+use Rattle.state.specs.declared.held.Held.{Held}
 use Rattle.unit.proofs.HeldFit.{held-shaped, fit-held}
-use Rattle.unit.proofs.Holding.{holds-back}
+use Rattle.state.proofs.Holding.{holds-back}
 use Rattle.unit.proofs.Noted.{padded-held}
-use Rattle.unit.proofs.Reacting.{reaction-by, noted-me}
-use Rattle.unit.proofs.Refusals.{first-counts, rest-counts, in-a-row}
+use Rattle.rules.proofs.Reacting.{reaction-by, noted-me}
 
 -- What the reader's answer tells of bytes that are a message: its fields are the message's.
 pub record Taken (n : ℕ) (bytes : List ℕ) (kind sender entries : ℕ) (changes : List ℕ) : Type 0 where
@@ -339,114 +340,25 @@ welcome words room from bytes e =
           (grown-of v m (told .1));
     }
 
--- Arrays as they are loaded from the table, and what a message that nothing refuses leaves in them.
-module _ (words : List ℕ) (room from : ℕ) (bytes : List ℕ) (w : Welcome words room from bytes) (h : Held)
-    (loaded : h ≡ heldOf (unitFrom words)) where
-  abbrev v : Unit
-  v = unitFrom words
+-- What step A makes of the message that was taken.
+module _ (h : Held) (from : ℕ) (bytes : List ℕ) (sent : messageOf bytes .sender ≡ from) {kind sender entries : ℕ}
+    {changes : List ℕ} (t : Taken (h .count) bytes kind sender entries changes) where
+  same-message : fieldsOf kind from (take entries changes) ≡ messageOf bytes
+  same-message = λ i. record { kind = t .of-kind i; sender = sym sent i; changes = t .part i }
 
-  abbrev event : Event
-  event = received (messageOf bytes)
+  owed-by : {owed : ℕ} → ((kind < 2) × (owed ≡ h .count)) ⊎ ((2 ≤ kind) × (owed ≡ from))
+      → owed ≡ owedOf (h .count) (received (messageOf bytes))
+  owed-by (inl q) =
+      q .1
+      ∙ sym (if-false (holdsUpdate (messageOf bytes)) _ _ (lt-leb 2 (messageOf bytes .kind) (omega (arith, q .0, t .of-kind))))
+  owed-by (inr q) =
+      q .1 ∙ sym sent
+      ∙ sym (if-true (holdsUpdate (messageOf bytes)) _ _ (le-leb 2 (messageOf bytes .kind) (omega (arith, q .0, t .of-kind))))
 
-  shaped : ShapedUnit v
-  shaped = fit-unit-shaped words (w .link .fit)
-
-  known : FitFacts v
-  known = fit-table-facts words (w .link .fit)
-
-  -- The count, and the unit that they hold.
-  pub loaded-count : h .count ≡ v .count
-  loaded-count = ap (λ (g : Held). g .count) loaded
-
-  loaded-unit : unitOf h ≡ v
-  loaded-unit = ap unitOf loaded ∙ holds-back v shaped
-
-  pub loaded-padded : Padded h
-  loaded-padded = rw loaded (padded-held v shaped)
-
-  pub loaded-legal : legalCount (h .count) ≡ true
-  loaded-legal = rw loaded-count (count-legal (v .count) (known .low) (known .high))
-
-  pub loaded-high : h .count ≤ unitLimit
-  loaded-high = rw loaded-count (known .high)
-
-  pub loaded-below : from < h .count
-  loaded-below = rw loaded-count (w .link .below)
-
-  -- The reader does not refuse.
-  pub never-unread : readable (h .count) bytes ≡ false → ⊥
-  never-unread e = not-both (readable (v .count) bytes) (w .legible) (rw loaded-count at e)
-
-  module _ {kind sender entries : ℕ} {changes : List ℕ} (t : Taken (h .count) bytes kind sender entries changes)
-      {after : Held} (e : after ≡ heldOf (noted (unitOf h) (received (fieldsOf kind from (take entries changes)))))
-      {owed : ℕ} (o : ((kind < 2) × (owed ≡ h .count)) ⊎ ((2 ≤ kind) × (owed ≡ from))) where
-    same-message : fieldsOf kind from (take entries changes) ≡ messageOf bytes
-    same-message = λ i. record { kind = t .of-kind i; sender = sym (w .sender) i; changes = t .part i }
-
-    after-noted : after ≡ heldOf (noted v event)
-    after-noted = e ∙ ap (λ (x : Unit). heldOf (noted x (received (fieldsOf kind from (take entries changes))))) loaded-unit
-        ∙ ap (λ (m : Message). heldOf (noted v (received m))) same-message
-
-    after-shaped : ShapedUnit (noted v event)
-    after-shaped = noted-shaped v shaped event
-
-    -- They hold a fit unit.
-    pub after-fit : FitHeld after
-    after-fit = rw after-noted (fit-held (noted v event) after-shaped (w .noted-fit))
-
-    -- The one that is owed an acknowledgment is not the unit itself.
-    pub owed-other : owed ≢ after .me
-    owed-other z =
-        let me : after .me ≡ v .me = ap (λ (g : Held). g .me) after-noted ∙ noted-me v event in
-        ⊎-elim
-        (λ q. omega (arith, q .1, loaded-count, known .me))
-        (λ q. w .link .other (sym (q .1) ∙ z ∙ me))
-        o
-
-    owed-by : owed ≡ owedOf (v .count) event
-    owed-by =
-        ⊎-elim
-        (λ q.
-        q .1 ∙ loaded-count
-        ∙ sym (if-false (holdsUpdate (messageOf bytes)) _ _ (lt-leb 2 (messageOf bytes .kind) (omega (arith, q .0, t .of-kind)))))
-        (λ q.
-        q .1 ∙ sym (w .sender)
-        ∙ sym (if-true (holdsUpdate (messageOf bytes)) _ _ (le-leb 2 (messageOf bytes .kind) (omega (arith, q .0, t .of-kind)))))
-        o
-
-    -- Steps B to F on them are the rules' reaction.
-    pub reacted : {was : Bool} → was ≡ isActive (unitOf h)
-        → reactionBy (unitOf after) was (h .count) owed ≡ tableReaction words (hubMessage from bytes)
-    reacted {was} a =
-        ap (λ (x : Unit). reactionBy x was (h .count) owed) (ap unitOf after-noted ∙ holds-back (noted v event) after-shaped)
-        ∙ ap (λ (b : Bool). reactionBy (noted v event) b (h .count) owed) (a ∙ ap isActive loaded-unit)
-        ∙ ap (λ (n : ℕ). reactionBy (noted v event) (isActive v) n owed) loaded-count
-        ∙ ap (reactionBy (noted v event) (isActive v) (v .count)) owed-by
-        ∙ sym (reaction-by v event)
-
--- What a call that nothing refuses leaves.
-module _ (words buffer : List ℕ) (call : HubCall) (e : tableRefusal words (length buffer) call ≡ accepted)
-    {r : Reaction} (same : r ≡ tableReaction words call) where
-  pub answer-left : {number : ℕ} → number ≡ 100 + length (outgoing r) → number ≡ tableAnswer words (length buffer) call
-  unfolding tableAnswer
-  answer-left q = q ∙ rw (same, e)
-
-  pub table-left : {after : List ℕ} → after ≡ laidUnit (r .unit) → after ≡ tableAfter words (length buffer) call
-  unfolding tableAfter
-  table-left q = q ∙ rw (same, e)
-
-  pub buffer-left : {after : List ℕ} → after ≡ outgoingLaid r buffer → after ≡ bufferAfter words buffer call
-  unfolding bufferAfter
-  buffer-left q = q ∙ rw (same, e)
-
--- What a call that is refused leaves.
-module _ (words buffer : List ℕ) (call : HubCall) {number : ℕ} (e : number ≡ tableRefusal words (length buffer) call)
-    (d : number ≢ accepted) where
-  refusal-test : eqb (tableRefusal words (length buffer) call) accepted ≡ false
-  refusal-test = ne-eqb _ _ (λ z. d (e ∙ z))
-
-  pub refused-call : (number ≡ tableAnswer words (length buffer) call)
-      × ((words ≡ tableAfter words (length buffer) call) × (buffer ≡ bufferAfter words buffer call))
-  unfolding tableAnswer tableAfter bufferAfter
-  refused-call =
-      (e ∙ sym (if-false _ _ _ refusal-test), (sym (if-false _ _ _ refusal-test), sym (if-false _ _ _ refusal-test)))
+  pub taken-noted : {after : Held} → after ≡ heldOf (noted (unitOf h) (received (fieldsOf kind from (take entries changes))))
+      → {owed : ℕ} → ((kind < 2) × (owed ≡ h .count)) ⊎ ((2 ≤ kind) × (owed ≡ from))
+      → _≡_ {A = Noted} (record { unit = after; new = h .count; owed = owed }) (notedBy h (FromNeighbour from) bytes)
+  taken-noted e o =
+      let unit = e ∙ ap (λ (m : Message). heldOf (noted (unitOf h) (received m))) same-message in
+      let owed = owed-by o in
+      λ i. record { unit = unit i; new = h .count; owed = owed i }

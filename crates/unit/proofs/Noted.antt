@@ -4,6 +4,7 @@ use Prim.Native.Nat.{ℕ, _*_, _≤_, _<_}
 use native.Mathlib.Omega.{arith}
 use mathlib.Core.List.{List, [], map}
 use mathlib.Core.Path.{_≡_, sym, ap, _∙_}
+use borrow.Author.Tests.{lt-ltb}
 use lib.ListN.{length, set, take, drop, length-map, length-take, length-drop, length-replicate}
 use lib.Seq.{length-take-le, paste}
 use Rattle.ground.specs.Limits.{unitLimit}
@@ -18,12 +19,13 @@ use Rattle.ground.proofs.Nothing.{filled-zeros}
 use Rattle.ground.proofs.Rows.{length-tab}
 use Rattle.ground.proofs.Stored.{set-filled, map-set, block-filled}
 use Rattle.rules.proofs.Laid.{ShapedUnit}
-use Rattle.unit.specs.Flat.{flatLength, copyIn, copiesIn}
-use Rattle.unit.specs.Holding.{heldOf, unitOf}
+use Rattle.ground.proofs.Tests.{if-true}
+use Rattle.recomputing.specs.Flat.{flatLength, copyIn, copiesIn, rowIn, withRow}
+use Rattle.state.specs.Holding.{heldOf, unitOf}
 use Rattle.unit.specs.Noting.{Padded}
-use Rattle.unit.specs.declared.held.Held.{Held}
-use Rattle.unit.proofs.Copies.{copy-of}
-use Rattle.unit.proofs.Holding.{holds-back}
+use Rattle.state.specs.declared.held.Held.{Held}
+use Rattle.recomputing.proofs.CopiedRows.{copy-of, row-whole}
+use Rattle.state.proofs.Holding.{holds-back}
 
 module _ (n : ℕ) (low : n ≤ unitLimit) where
   -- The numbers of a row that is filled up have a place for each unit.
@@ -107,24 +109,25 @@ module _ (h : Held) (p : Padded h) where
 
   module _ (k : ℕ) (l : k < h .count) where
     -- The copy of unit k as it is laid in the flat row.
-    pub copy-laid : take unitLimit (drop (k * unitLimit) (h .copies)) ≡ laidRow (copyOf (unitOf h .copies) k)
+    pub copy-laid : rowIn (h .copies) k ≡ laidRow (copyOf (unitOf h .copies) k)
     copy-laid =
         let e : h .copies ≡ heldOf (unitOf h) .copies = ap (λ (g : Held). g .copies) (p .zeros) in
         let copies = copiesIn (h .count) (h .copies) in
         let inside : k < length copies = rw (length-tab (h .count) (copyIn (h .count) (h .copies))) l in
-        ap (λ (flat : List ℕ). take unitLimit (drop (k * unitLimit) flat)) e
+        row-whole (h .copies) k (flat-length (h .count) (p .count) (h .copies) e) (omega (arith, p .count))
+        ∙ ap (λ (flat : List ℕ). take unitLimit (drop (k * unitLimit) flat)) e
         ∙ map-block unitLimit laidRow copies [] (copies-wide (h .count) (p .count) (h .copies) e) _ k inside
 
     -- A row laid over the copy of unit k replaces it.
     pub copy-stored : (row : List ℕ) → length row ≡ h .count
-        → paste (h .copies) (k * unitLimit) (laidRow row) unitLimit
-        ≡ filled flatLength (joined (map laidRow (set (unitOf h .copies) k row)))
+        → withRow (h .copies) k (laidRow row) ≡ filled flatLength (joined (map laidRow (set (unitOf h .copies) k row)))
     copy-stored row m =
         let e : h .copies ≡ heldOf (unitOf h) .copies = ap (λ (g : Held). g .copies) (p .zeros) in
         let copies = copiesIn (h .count) (h .copies) in
         let inside : k < length (map laidRow copies) =
         rw (length-map copies laidRow, length-tab (h .count) (copyIn (h .count) (h .copies))) l in
-        ap (λ (flat : List ℕ). paste flat (k * unitLimit) (laidRow row) unitLimit) e
+        if-true _ _ _ (lt-ltb k unitLimit (omega (arith, p .count)))
+        ∙ ap (λ (flat : List ℕ). paste flat (k * unitLimit) (laidRow row) unitLimit) e
         ∙ block-filled unitLimit (map laidRow copies)
         (map-blocks unitLimit laidRow copies [] (copies-wide (h .count) (p .count) (h .copies) e)) k inside (laidRow row)
         (length-filled unitLimit row (omega (arith, p .count)))
@@ -132,9 +135,9 @@ module _ (h : Held) (p : Padded h) where
         ∙ ap (λ (blocks : List (List ℕ)). filled flatLength (joined blocks)) (sym (map-set laidRow copies k row))
 
     -- A row of nothing does too.
-    pub copy-emptied : paste (h .copies) (k * unitLimit) (zeros unitLimit) unitLimit
+    pub copy-emptied : withRow (h .copies) k (zeros unitLimit)
         ≡ filled flatLength (joined (map laidRow (set (unitOf h .copies) k (zeros (h .count)))))
     copy-emptied =
-        ap (λ (row : List ℕ). paste (h .copies) (k * unitLimit) row unitLimit)
+        ap (withRow (h .copies) k)
         (sym (filled-zeros unitLimit (h .count) (p .count)))
         ∙ copy-stored (zeros (h .count)) (length-replicate (h .count) 0)

@@ -16,27 +16,10 @@ use Rattle.rules.specs.Hub.{hubUp, hubCost, hubDown, hubRefusal, tableRefusal, 
 use Rattle.rules.specs.Network.{badEnds}
 use Rattle.rules.specs.Tables.{unitFrom, costsAt, fitUnitTable}
 use Rattle.rules.specs.Unit.{Unit, isNeighbour}
-use Rattle.ground.proofs.Refusal.{gives-none, otherwise-none}
+use Rattle.ground.proofs.Refusal.{gives-none, otherwise-none, in-a-row}
 use Rattle.ground.proofs.Tests.{neither, if-true, if-false}
 use Rattle.rules.proofs.FitUnit.{FitFacts, fit-table-facts}
 use Rattle.unit.specs.Calls.{endRefusal, costIn, upRest, costRest, downRest}
-
--- Of two refusals in a row the first counts where it is one, and else the second.
-pub first-counts : (a rest : ℕ) → a ≢ accepted → (a otherwise rest) ≡ a
-first-counts a rest d = if-false (eqb a accepted) rest a (ne-eqb a accepted d)
-
-pub rest-counts : (a rest : ℕ) → a ≡ accepted → (a otherwise rest) ≡ rest
-rest-counts a rest e = if-true (eqb a accepted) rest a (eq-eqb a accepted e)
-
--- Three in a row, grouped either way.
-pub in-a-row : (a b c : ℕ) → (a otherwise (b otherwise c)) ≡ ((a otherwise b) otherwise c)
-in-a-row a b c = go (eqb a accepted) refl
-  where
-    go : (t : Bool) → eqb a accepted ≡ t → (a otherwise (b otherwise c)) ≡ ((a otherwise b) otherwise c)
-    go true e = rest-counts a _ (eqb-true a accepted e) ∙ sym (ap (λ (x : ℕ). x otherwise c) (rest-counts a b (eqb-true a accepted e)))
-    go false e =
-        let d : a ≢ accepted = eqb-false a accepted e in
-        first-counts a _ d ∙ sym (ap (λ (x : ℕ). x otherwise c) (first-counts a b d) ∙ first-counts a c d)
 
 -- Each call's refusal: the ends first, then its own.
 module _ (words : List ℕ) (room to : ℕ) where

@@ -15,7 +15,7 @@ use lib.Seq.{take-suc-set, drop-set-lt, append-snoc, take-append-seam, drop-appe
 use Rattle.ground.specs.Choice.{if_then_else_}
 use Rattle.ground.specs.Limits.{unitLimit, entryLimit, messageRoom}
 use Rattle.ground.specs.Refusal.{accepted}
-use Rattle.ground.specs.Rows.{at, tab, zeros, filled, joined}
+use Rattle.ground.specs.Rows.{at, tab, zeros, filled, joined, laidAfter}
 use Rattle.rules.specs.Hub.{outgoingTo}
 use Rattle.rules.specs.Message.{acknowledgment, update, change, bodyFor, differences, written, writtenLength, writeRefusal}
 use Rattle.message.specs.Fields.{fieldsOf}
@@ -26,7 +26,7 @@ use Rattle.ground.proofs.Joined.{joined-more}
 use Rattle.ground.proofs.Limits.{count-legal}
 use Rattle.rules.proofs.Differences.{differences-most, differences-same, differences-other}
 use Rattle.rules.proofs.Written.{legal-of, written-length}
-use Rattle.unit.specs.Sending.{listed, kindFor, bytesTo, laidAfter, Sendable}
+use Rattle.unit.specs.Sending.{listed, kindFor, bytesTo, Sendable}
 use Rattle.unit.specs.declared.send.Changes.{Changes}
 
 -- The differences of the units below j, in an array with their number.

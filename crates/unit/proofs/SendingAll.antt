@@ -27,10 +27,10 @@ use Rattle.rules.proofs.FitUnit.{FitFacts, fit-facts}
 use Rattle.rules.proofs.LegalDifferences.{legal-update, legal-acknowledgment}
 use Rattle.rules.proofs.TreeEntries.{tree-short}
 use Rattle.rules.proofs.Written.{legal-of, written-length}
-use Rattle.unit.specs.Holding.{unitOf}
-use Rattle.unit.specs.Reacting.{isSentBy, changesBy, messageBy}
+use Rattle.state.specs.Holding.{unitOf}
+use Rattle.rules.specs.Event.{isSentUpdate, differencesFor, messageTo}
 use Rattle.unit.specs.Sending.{Small, listed, kindFor, bytesTo, Sendable, SendableAll, sentBytes}
-use Rattle.unit.specs.declared.held.Held.{Held}
+use Rattle.state.specs.declared.held.Held.{Held}
 use Rattle.unit.specs.declared.send.Changes.{Changes}
 use Rattle.unit.proofs.Sending.{sentTo, listIn, list-fits, list-back, bytes-outgoing}
 
@@ -141,13 +141,13 @@ module _ (h : Held) (tree : List ℕ) (isChanged : Bool) (owed room : ℕ) (all 
       list-of k = picked-back (sends k) (eqb k new) _ _ w s ∙ same-changes (sends k) (eqb k new)
 
       -- So is the choice of who is sent an update.
-      same-sent : (k : ℕ) → k < h .count → isSentBy (unitOf h) (take (h .count) tree) new k ≡ sends k
-      unfolding isSentBy
+      same-sent : (k : ℕ) → k < h .count → isSentUpdate (unitOf h) (take (h .count) tree) new k ≡ sends k
+      unfolding isSentUpdate
       same-sent k l = rw (taken (h .costs) k l, all .tells)
 
       -- So are the bytes.
-      bytes-for : (k : ℕ) → k < h .count → laid k ≡ outgoingTo k (messageBy (unitOf h) (take (h .count) tree) new owed k)
-      unfolding bytesFor messageBy changesBy
+      bytes-for : (k : ℕ) → k < h .count → laid k ≡ outgoingTo k (messageTo (unitOf h) (take (h .count) tree) new owed k)
+      unfolding bytesFor messageTo differencesFor
       bytes-for k l =
           ap (bytesTo k (kindTo k) (h .me)) (list-of k)
           ∙ rw (same-sent k l) (bytes-outgoing k (h .me) (sends k) (eqb k owed) (changesTo k))

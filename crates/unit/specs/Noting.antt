@@ -6,8 +6,8 @@ use lib.ListN.{length}
 use Rattle.ground.specs.Limits.{unitLimit}
 use Rattle.ground.specs.Rows.{at}
 use Rattle.rules.specs.Message.{unitOf as changedUnit}
-use Rattle.unit.specs.Holding.{heldOf, unitOf}
-use Rattle.unit.specs.declared.held.Held.{Held}
+use Rattle.state.specs.Holding.{heldOf, unitOf}
+use Rattle.state.specs.declared.held.Held.{Held}
 
 pub record Padded (h : Held) : Type 0 where
   pub count : h .count ≤ unitLimit

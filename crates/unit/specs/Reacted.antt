@@ -13,12 +13,12 @@ use Rattle.rules.specs.Event.{Reaction}
 use Rattle.rules.specs.Hub.{outgoing, outgoingLaid}
 use Rattle.rules.specs.Tables.{laidRow}
 use Rattle.rules.specs.Unit.{Unit, fitUnit, successorSet}
-use Rattle.unit.specs.Holding.{heldOf, unitOf}
-use Rattle.unit.specs.Reacting.{reactionBy}
+use Rattle.state.specs.Holding.{heldOf, unitOf}
+use Rattle.rules.specs.Event.{reactionBy}
 use Rattle.unit.specs.declared.event.Lowering.{Lowering}
 use Rattle.unit.specs.declared.event.Lowering.the-variants.{Alone, Passive, Waiting, Released}
 use Rattle.unit.specs.declared.event.Reacted.{Reacted}
-use Rattle.unit.specs.declared.held.Held.{Held}
+use Rattle.state.specs.declared.held.Held.{Held}
 
 -- Arrays with zeros from the count on, that hold a fit unit.
 pub record FitHeld (h : Held) : Type 0 where

@@ -7,22 +7,22 @@ use mathlib.Core.Path.{_≡_}
 use lib.Dec.{eqb}
 use lib.ListN.{length, take, drop}
 use Rattle.ground.specs.Choice.{if_then_else_}
-use Rattle.ground.specs.Limits.{unitLimit, messageRoom, firmwareRoom}
+use Rattle.ground.specs.Limits.{unitLimit, messageRoom, firmwareRoom, changeBase}
 use Rattle.ground.specs.Rows.{at, tab, filled, joined}
 use Rattle.tree.specs.Tree.{isTree}
 use Rattle.rules.specs.Event.{changed}
 use Rattle.rules.specs.Hub.{outgoingTo}
 use Rattle.rules.specs.Message.{Message, written, legalMessage}
 use Rattle.rules.specs.Unit.{Unit}
-use Rattle.unit.specs.Holding.{unitOf}
+use Rattle.state.specs.Holding.{unitOf}
 use Rattle.unit.specs.Reacted.{FitHeld}
-use Rattle.unit.specs.Reacting.{messageBy}
-use Rattle.unit.specs.declared.held.Held.{Held}
+use Rattle.rules.specs.Event.{messageTo}
+use Rattle.state.specs.declared.held.Held.{Held}
 use Rattle.unit.specs.declared.send.Changes.{Changes}
 
 -- Entries that leave room for the unit's byte.
 abbrev pub Small : (n : ℕ) (row : List ℕ) → Type 0
-Small n row = (j : ℕ) → j < n → at row j < 16777216
+Small n row = (j : ℕ) → j < n → at row j < changeBase
 
 -- Changes in an array, with their number.
 abbrev pub listed : (changes : List ℕ) → Changes
@@ -36,10 +36,6 @@ kindFor sent owed = if sent then (if owed then 3 else 2) else if owed then 1 els
 abbrev pub bytesTo : (k kind sender : ℕ) (changes : List ℕ) → List ℕ
 bytesTo k kind sender changes =
     if eqb kind 0 then [] else k ∷ written (record { kind = kind; sender = sender; changes = changes })
-
--- Bytes laid into a buffer from a place on; the others stay.
-abbrev pub laidAfter : (used : ℕ) (bytes buffer : List ℕ) → List ℕ
-laidAfter used bytes buffer = take used buffer ++ bytes ++ drop (used + length bytes) buffer
 
 -- What is needed to lay one message, if there is one: room for the longest, and fields that the writer does not refuse.
 pub record Sendable (n me k kind : ℕ) (changes : List ℕ) (room used : ℕ) : Type 0 where
@@ -60,4 +56,4 @@ pub record SendableAll (h : Held) (tree : List ℕ) (isChanged : Bool) (owed roo
 
 -- The bytes of all messages.
 abbrev pub sentBytes : (v : Unit) (tree : List ℕ) (new owed : ℕ) → List ℕ
-sentBytes v tree new owed = joined (tab (v .count) (λ k. outgoingTo k (messageBy v tree new owed k)))
+sentBytes v tree new owed = joined (tab (v .count) (λ k. outgoingTo k (messageTo v tree new owed k)))

@@ -11,39 +11,23 @@ ghost use Rattle.rules.specs.Tables.{laidRow};
 ghost use Rattle.rules.specs.Unit.{isActive};
 ghost use Rattle.tree.specs.Recompute.{recomputed as recomputedTree};
 ghost use Rattle.tree.specs.Tree.{distance};
-ghost use Rattle.unit.specs.Holding.{unitOf};
-ghost use Rattle.unit.specs.Reacting.{feasibleBy};
+ghost use Rattle.state.specs.Holding.{unitOf};
+ghost use Rattle.rules.specs.Event.{newFeasible};
 ghost use Rattle.unit.specs.Reacted.{FitHeld, throughOf, loweringFor, loweredTo, loweredRow, waitTo, awaitedRow, reactedOf, reactedOut};
-use crate::fit;
-use crate::heads;
-use crate::held::Held;
-use crate::recompute;
 use crate::send;
-use crate::through;
 use ground::UNITS;
+use recomputing::heads;
+use recomputing::recompute;
+use recomputing::successors;
+use recomputing::through;
+use state::held;
+use state::held::Held;
 
 // What an event leaves: the unit, its successor sets, and the bytes used for its messages.
 pub struct Reacted {
     pub unit: Held,
     pub successors: [u32; UNITS],
     pub used: usize,
-}
-
-// Whether the unit awaits an acknowledgment.
-pub(crate) fn is_active(unit: Held) -> bool
-    requires { ⌜ unit .count ≤ unitLimit ⌝ }
-    ensures { λ r. ⌜ r ≡ isActive (unitOf unit) ⌝ }
-{
-    let count = unit.count;
-    let awaited = unit.awaited;
-    let mut k = 0;
-    while k < count {
-        if awaited[k] != 0 {
-            return true;
-        }
-        k += 1;
-    }
-    false
 }
 
 // Whether no link is up.
@@ -89,20 +73,6 @@ fn new_tree(unit: Held, kept: bool, through: [[u32; UNITS]; UNITS]) -> [u32; UNI
     let costs = unit.costs;
     let copies = unit.copies;
     recompute::recomputed(unit.count, unit.me, costs, &copies, through)
-}
-
-// The distances in a tree rooted at this unit.
-pub(crate) fn own_distances(count: usize, me: usize, tree: [u32; UNITS]) -> [u32; UNITS]
-    requires { ⌜ count ≤ unitLimit ⌝ }
-    ensures { λ r. ⌜ r ≡ filled unitLimit (tab count (distance count me (take count tree))) ⌝ }
-{
-    let mut row = [0u32; UNITS];
-    let mut j = 0;
-    while j < count {
-        row[j] = heads::distance(&tree[..count], me, count - 1, j);
-        j += 1;
-    }
-    row
 }
 
 // Whether both tests hold.
@@ -188,7 +158,7 @@ fn feasible_after(
     changed: bool,
 ) -> [u32; UNITS]
     requires { ⌜ (unit .count ≤ unitLimit) × (active ≡ isActive (unitOf unit)) × (changed ≡ isChangedTree (unitOf unit) (take (unit .count) tree)) ⌝ }
-    ensures { λ r. ⌜ r ≡ laidRow (feasibleBy (unitOf unit) was (take (unit .count) tree)) ⌝ }
+    ensures { λ r. ⌜ r ≡ laidRow (newFeasible (unitOf unit) was (take (unit .count) tree)) ⌝ }
 {
     let count = unit.count;
     let me = unit.me;
@@ -199,8 +169,8 @@ fn feasible_after(
         count,
         how,
         feasible,
-        own_distances(count, me, old),
-        own_distances(count, me, tree),
+        heads::distances(old, count, me),
+        heads::distances(tree, count, me),
     )
 }
 
@@ -248,7 +218,7 @@ pub(crate) fn react(unit: Held, was: bool, new: usize, owed: usize, out: &mut [u
     let costs = unit.costs;
     let copies = unit.copies;
     let through = through::through_neighbours(count, costs, &copies);
-    let active = is_active(unit);
+    let active = held::is_active(unit);
     let tree = new_tree(unit, both(was, active), through);
     let old = unit.tree;
     let changed = is_changed(count, old, tree);
@@ -256,7 +226,7 @@ pub(crate) fn react(unit: Held, was: bool, new: usize, owed: usize, out: &mut [u
     let waits = unit.awaited;
     let awaited = new_awaited(count, costs, waits, changed, new);
     let used = send::send(unit, tree, changed, new, owed, out);
-    let successors = fit::sets_over(count, through, feasible);
+    let successors = successors::sets_over(count, through, feasible);
     Reacted {
         unit: Held {
             count,

@@ -1,35 +1,20 @@
 // Step A: what an event changes in a unit's tables before anything is recomputed.
 ghost use mathlib.Core.Path.{_≡_};
-ghost use Prim.Native.Nat.{_*_, _<_};
-ghost use lib.ListN.{length};
-ghost use lib.Seq.{paste};
+ghost use Prim.Native.Nat.{_<_};
 ghost use Rattle.ground.specs.Limits.{unitLimit};
 ghost use Rattle.rules.specs.Event.{noted, linkUp, newCost, linkDown, received as receivedMessage, changesNothing};
 ghost use Rattle.rules.specs.Message.{applied as appliedTo, entryOf};
 ghost use Rattle.rules.specs.Tables.{laidRow};
 ghost use Rattle.tree.specs.Recompute.{copyOf};
 ghost use Rattle.message.specs.Fields.{fieldsOf};
-ghost use Rattle.unit.specs.Holding.{heldOf, unitOf};
+ghost use Rattle.state.specs.Holding.{heldOf, unitOf};
 ghost use Rattle.unit.specs.Noting.{Padded, UnitsBelow};
-use crate::held::Held;
+use ground::CHANGE_BASE;
 use ground::COPIES;
 use ground::REMOVED;
 use ground::UNITS;
-
-// The copies with another row for unit k.
-fn with_copy(copies: [u32; COPIES], k: usize, row: [u32; UNITS]) -> [u32; COPIES]
-    requires { ⌜ k < unitLimit ⌝ }
-    ensures { λ r. ⌜ r ≡ paste copies (k * unitLimit) row unitLimit ⌝ }
-{
-    let mut numbers = copies;
-    let from = k * UNITS;
-    let mut j = 0;
-    while j < UNITS {
-        numbers[from + j] = row[j];
-        j += 1;
-    }
-    numbers
-}
+use recomputing::copies;
+use state::held::Held;
 
 // The copy of unit k's tree.
 pub(crate) fn copy_of(unit: Held, k: usize) -> [u32; UNITS]
@@ -37,14 +22,7 @@ pub(crate) fn copy_of(unit: Held, k: usize) -> [u32; UNITS]
     ensures { λ r. ⌜ r ≡ laidRow (copyOf (unitOf unit .copies) k) ⌝ }
 {
     let copies = unit.copies;
-    let from = k * UNITS;
-    let mut row = [0u32; UNITS];
-    let mut j = 0;
-    while j < UNITS {
-        row[j] = copies[from + j];
-        j += 1;
-    }
-    row
+    copies::copy_of(&copies, k)
 }
 
 // The entry that a body sets.
@@ -63,8 +41,8 @@ pub(crate) fn applied(copy: [u32; UNITS], changes: &[u32]) -> [u32; UNITS]
     let mut i = 0;
     while i < changes.len() {
         let change = changes[i];
-        let j = (change / 16777216) as usize;
-        row[j] = entry_of(change % 16777216);
+        let j = (change / CHANGE_BASE) as usize;
+        row[j] = entry_of(change % CHANGE_BASE);
         i += 1;
     }
     row
@@ -78,8 +56,8 @@ pub(crate) fn changes_nothing(copy: [u32; UNITS], changes: &[u32]) -> bool
     let mut i = 0;
     while i < changes.len() {
         let change = changes[i];
-        let j = (change / 16777216) as usize;
-        if copy[j] == entry_of(change % 16777216) {
+        let j = (change / CHANGE_BASE) as usize;
+        if copy[j] == entry_of(change % CHANGE_BASE) {
             return true;
         }
         i += 1;
@@ -113,7 +91,12 @@ pub(crate) fn link_up(unit: Held, k: usize, cost: u32) -> Held
     costs[k] = cost;
     let awaited = unit.awaited;
     let copies = unit.copies;
-    with_links(unit, costs, awaited, with_copy(copies, k, [0u32; UNITS]))
+    with_links(
+        unit,
+        costs,
+        awaited,
+        copies::with_copy(copies, k, [0u32; UNITS]),
+    )
 }
 
 // Cost: the cost set.
@@ -138,7 +121,12 @@ pub(crate) fn link_down(unit: Held, k: usize) -> Held
     let mut awaited = unit.awaited;
     awaited[k] = 0;
     let copies = unit.copies;
-    with_links(unit, costs, awaited, with_copy(copies, k, [0u32; UNITS]))
+    with_links(
+        unit,
+        costs,
+        awaited,
+        copies::with_copy(copies, k, [0u32; UNITS]),
+    )
 }
 
 // A message: its acknowledgment clears the wait on the sender, its update changes the sender's copy.
@@ -156,5 +144,10 @@ pub(crate) fn received(unit: Held, kind: u32, sender: usize, changes: &[u32]) ->
         return with_links(unit, costs, awaited, copies);
     }
     let copy = applied(copy_of(unit, sender), changes);
-    with_links(unit, costs, awaited, with_copy(copies, sender, copy))
+    with_links(
+        unit,
+        costs,
+        awaited,
+        copies::with_copy(copies, sender, copy),
+    )
 }

@@ -5,16 +5,18 @@ ghost use mathlib.Core.Path.{_≡_};
 ghost use Prim.Native.Nat.{_+_, _≤_, _<_};
 ghost use lib.Dec.{eqb};
 ghost use lib.ListN.{length, take};
+ghost use Rattle.ground.specs.Rows.{laidAfter};
 ghost use Rattle.ground.specs.Choice.{if_then_else_};
-ghost use Rattle.ground.specs.Limits.{unitLimit};
+ghost use Rattle.ground.specs.Limits.{unitLimit, changeBase};
 ghost use Rattle.rules.specs.Message.{change as changeTo, bodyFor, differences as differencesOf};
-ghost use Rattle.unit.specs.Holding.{unitOf};
-ghost use Rattle.unit.specs.Sending.{Small, listed, kindFor, bytesTo, laidAfter, Sendable, SendableAll, sentBytes};
-use crate::held::Held;
+ghost use Rattle.state.specs.Holding.{unitOf};
+ghost use Rattle.unit.specs.Sending.{Small, listed, kindFor, bytesTo, Sendable, SendableAll, sentBytes};
+use ground::CHANGE_BASE;
 use ground::REMOVED;
 use ground::UNITS;
 use message::writer;
 use message::writer::Written;
+use state::held::Held;
 
 // Changes of a tree, one number each, and zeros after the last.
 pub struct Changes {
@@ -24,11 +26,11 @@ pub struct Changes {
 
 // The number for a change of unit j to an entry: the entry's head and cost, or the mark of a removed entry.
 fn change(j: usize, entry: u32) -> u32
-    requires { ⌜ (j < unitLimit) × (entry < 16777216) ⌝ }
+    requires { ⌜ (j < unitLimit) × (entry < changeBase) ⌝ }
     ensures { λ r. ⌜ r ≡ changeTo j (bodyFor entry) ⌝ }
 {
     let body = if entry == 0 { REMOVED } else { entry };
-    (j as u32) * 16777216 + body
+    (j as u32) * CHANGE_BASE + body
 }
 
 // The differences between two trees, rising.

@@ -10,15 +10,6 @@ returns c =
     let args = c .before .before .args in
     wrong-asked (args .table .now) activeAnswer (c .if1 .taken)
 
-words-requires : tie.Need-words-requires
-words-requires c κs = search needs
-
-slice-aggregate-active : tie.Need-slice-aggregate-active
-slice-aggregate-active c = search needs
-
-active-requires : tie.Need-active-requires
-active-requires c κs = search needs
-
 returns-2 : tie.Need-returns-2
 returns-2 c =
     let tested = c .before .before .before in
@@ -27,4 +18,4 @@ returns-2 c =
 
 pub hub-active-spec : {M : Type 1} → statement M
 hub-active-spec =
-    tie.close (tie.spec returns words-requires slice-aggregate-active active-requires returns-2)
+    tie.close (tie.spec returns (λ c. search needs) (λ c. search needs) (λ c. search needs) returns-2)

@@ -11,9 +11,6 @@ returns c =
     let args = c .before .before .args in
     fresh-count (args .table .now) (args .count) (args .me) (λ i. omega (arith, c .before .slice-known .given i)) (count-low _ (c .if1 .taken))
 
-cast-if2 : tie.Need-cast-if2
-cast-if2 c = search needs
-
 returns-2 : tie.Need-returns-2
 returns-2 c =
     let args = c .before .before .before .args in
@@ -23,21 +20,6 @@ returns-3 : tie.Need-returns-3
 returns-3 c =
     let args = c .before .before .before .before .args in
     fresh-length (args .table .now) (args .count) (args .me) (count-legal _ (c .before .before .if1 .left) (c .before .if2 .left)) (c .if3 .taken)
-
-words-requires : tie.Need-words-requires
-words-requires c κs = search needs
-
-slice-aggregate-fresh : tie.Need-slice-aggregate-fresh
-slice-aggregate-fresh c = search needs
-
-fresh-requires : tie.Need-fresh-requires
-fresh-requires c κs = search needs
-
-put-words-requires : tie.Need-put-words-requires
-put-words-requires c κs = search needs
-
-same-length : tie.Need-same-length
-same-length c = search needs
 
 returns-4 : tie.Need-returns-4
 returns-4 c =
@@ -55,12 +37,8 @@ hub-fresh-spec =
     tie.close
     (tie.spec
     returns
-    cast-if2
+    (λ c. search needs)
     returns-2
     returns-3
-    words-requires
-    slice-aggregate-fresh
-    fresh-requires
-    put-words-requires
-    same-length
+    (λ c. search needs) (λ c. search needs) (λ c. search needs) (λ c. search needs) (λ c. search needs)
     returns-4)

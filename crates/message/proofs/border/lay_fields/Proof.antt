@@ -19,40 +19,13 @@ Inv-loop kind sender entries changes fields₀ i₀ fields i =
 abbrev μ-loop : tie.MeasureT-loop
 μ-loop kind sender entries changes fields₀ i₀ fields i = entryLimit - i
 
-slice-write-fields : tie.Need-slice-write-fields Inv-loop μ-loop
-slice-write-fields c = search needs
-
-slice-write-fields-2 : tie.Need-slice-write-fields-2 Inv-loop μ-loop
-slice-write-fields-2 c = simp length-set (omega arith)
-
-slice-write-fields-3 : tie.Need-slice-write-fields-3 Inv-loop μ-loop
-slice-write-fields-3 c = simp length-set (omega arith)
-
 loop-holds : tie.Need-loop-holds Inv-loop μ-loop
 loop-holds c = (search needs, refl, paste-zero _ leading (c .args .changes .now))
-
-mul-fields : tie.Need-mul-fields Inv-loop μ-loop
-mul-fields c = search needs
-
-shared-slice-read-fields : tie.Need-shared-slice-read-fields Inv-loop μ-loop
-shared-slice-read-fields c = search needs
-
-add-fields : tie.Need-add-fields Inv-loop μ-loop
-add-fields c = search needs
-
-mul-fields-2 : tie.Need-mul-fields-2 Inv-loop μ-loop
-mul-fields-2 c = search needs
 
 slice-write-fields-4 : tie.Need-slice-write-fields-4 Inv-loop μ-loop
 slice-write-fields-4 c =
     let args = c .before .before .before .args in
     omega (arith, stored-length (args .kind) (args .sender) (args .entries) (args .fields .now))
-
-add-i : tie.Need-add-i Inv-loop μ-loop
-add-i c = search needs
-
-loop-less : tie.Need-loop-less Inv-loop μ-loop
-loop-less c = search needs
 
 loop-again : tie.Need-loop-again Inv-loop μ-loop
 loop-again c =
@@ -79,17 +52,11 @@ lay-fields-spec =
     (tie.spec
     Inv-loop
     μ-loop
-    slice-write-fields
-    slice-write-fields-2
-    slice-write-fields-3
+    (λ c. search needs) (λ c. simp length-set (omega arith)) (λ c. simp length-set (omega arith))
     loop-holds
-    mul-fields
-    shared-slice-read-fields
-    add-fields
-    mul-fields-2
+    (λ c. search needs) (λ c. search needs) (λ c. search needs) (λ c. search needs)
     slice-write-fields-4
-    add-i
-    loop-less
+    (λ c. search needs) (λ c. search needs)
     loop-again
     same-length
     returns)

@@ -36,9 +36,6 @@ returns c =
     let args = c .before .before .before .args in
     bad-count _ (args .bytes .now) (args .fields .now) (count-low _ (c .if1 .taken))
 
-cast-if2 : tie.Need-cast-if2
-cast-if2 c = search needs
-
 returns-2 : tie.Need-returns-2
 returns-2 c =
     let args = c .before .before .before .before .args in
@@ -48,18 +45,6 @@ returns-3 : tie.Need-returns-3
 returns-3 c =
     let args = c .before .before .before .before .before .args in
     short-table _ (args .bytes .now) (args .fields .now) (count-legal _ (c .before .before .if1 .left) (c .before .if2 .left)) (c .if3 .taken)
-
-read-requires : tie.Need-read-requires
-read-requires c κs = search needs
-
-enum-known-answer : tie.Need-enum-known-answer
-enum-known-answer c = search needs
-
-enum-told : tie.Need-enum-told
-enum-told c = search needs
-
-reading-number-requires : tie.Need-reading-number-requires
-reading-number-requires c κs = search needs
 
 returns-4 : tie.Need-returns-4
 returns-4 c =
@@ -75,17 +60,8 @@ returns-4 c =
 cast-number : tie.Need-cast-number
 cast-number c = omega (arith, got (c .before) .few)
 
-slice-aggregate-lay-fields : tie.Need-slice-aggregate-lay-fields
-slice-aggregate-lay-fields c = search needs
-
-lay-fields-requires : tie.Need-lay-fields-requires
-lay-fields-requires c κs = search needs
-
 add-result : tie.Need-add-result
 add-result c = omega (arith, got (c .before .before .before .before .before .before) .few)
-
-same-length : tie.Need-same-length
-same-length c = search needs
 
 returns-5 : tie.Need-returns-5
 returns-5 c =
@@ -97,17 +73,13 @@ message-read-spec =
     tie.close
     (tie.spec
     returns
-    cast-if2
+    (λ c. search needs)
     returns-2
     returns-3
-    read-requires
-    enum-known-answer
-    enum-told
-    reading-number-requires
+    (λ c. search needs) (λ c. search needs) (λ c. search needs) (λ c. search needs)
     returns-4
     cast-number
-    slice-aggregate-lay-fields
-    lay-fields-requires
+    (λ c. search needs) (λ c κs. search needs)
     add-result
-    same-length
+    (λ c. search needs)
     returns-5)

@@ -20,21 +20,6 @@ short c =
     let called = c .before .before .before .before .before .write in
     written-short _ _ _ _ (sym (called .ensures .0) ∙ c .before .answer .given .1)
 
-write-requires : tie.Need-write-requires
-write-requires c κs = search needs
-
-enum-known-answer : tie.Need-enum-known-answer
-enum-known-answer c = search needs
-
-enum-told : tie.Need-enum-told
-enum-told c = search needs
-
-writing-number-requires : tie.Need-writing-number-requires
-writing-number-requires c κs = search needs
-
-same-length : tie.Need-same-length
-same-length c = search needs
-
 returns : tie.Need-returns
 returns c =
     let called = c .before .before .before .before .before .write in
@@ -46,9 +31,6 @@ cast-result c = omega (arith, short c)
 add-result : tie.Need-add-result
 add-result c = omega (arith, short c)
 
-same-length-2 : tie.Need-same-length-2
-same-length-2 c = search needs
-
 returns-2 : tie.Need-returns-2
 returns-2 c =
     let called = c .before .before .before .before .before .write in
@@ -58,13 +40,9 @@ pub message-write-spec : {M : Type 1} → statement M
 message-write-spec =
     tie.close
     (tie.spec
-    write-requires
-    enum-known-answer
-    enum-told
-    writing-number-requires
-    same-length
+    (λ c. search needs) (λ c. search needs) (λ c. search needs) (λ c. search needs) (λ c. search needs)
     returns
     cast-result
     add-result
-    same-length-2
+    (λ c. search needs)
     returns-2)

@@ -19,9 +19,6 @@ returns-3 c =
     simp
     (le-leb _ _ (c .before .before .if1 .left), lt-ltb _ _ (c .before .if2 .left), eq-eqb _ _ (c .if3 .taken))
 
-legal-body-requires : tie.Need-legal-body-requires
-legal-body-requires c κs = search needs
-
 returns-4 : tie.Need-returns-4
 unfolding legalFrom
 returns-4 c =
@@ -30,4 +27,4 @@ returns-4 c =
     (c .legal-body .ensures)
 
 pub legal-change-spec : {M : Type 1} → statement M
-legal-change-spec = tie.close (tie.spec returns returns-2 returns-3 legal-body-requires returns-4)
+legal-change-spec = tie.close (tie.spec returns returns-2 returns-3 (λ c. search needs) returns-4)

@@ -25,15 +25,6 @@ abbrev μ-loop : tie.MeasureT-loop
 loop-holds : tie.Need-loop-holds Inv-loop μ-loop
 loop-holds c = (search needs, refl, refl)
 
-mul-change : tie.Need-mul-change Inv-loop μ-loop
-mul-change c = search needs
-
-shared-slice-read-change : tie.Need-shared-slice-read-change Inv-loop μ-loop
-shared-slice-read-change c = search needs
-
-legal-change-requires : tie.Need-legal-change-requires Inv-loop μ-loop
-legal-change-requires c κs = search needs
-
 returns : tie.Need-returns Inv-loop μ-loop
 unfolding legalChanges
 returns c =
@@ -44,12 +35,6 @@ returns c =
 
 add-lowest : tie.Need-add-lowest Inv-loop μ-loop
 add-lowest c = omega (arith, c .before .before .shared-slice-known2 .given (c .before .before .before .before .loop .i))
-
-add-i : tie.Need-add-i Inv-loop μ-loop
-add-i c = search needs
-
-loop-less : tie.Need-loop-less Inv-loop μ-loop
-loop-less c = search needs
 
 loop-again : tie.Need-loop-again Inv-loop μ-loop
 loop-again c =
@@ -69,12 +54,9 @@ legal-changes-spec =
     Inv-loop
     μ-loop
     loop-holds
-    mul-change
-    shared-slice-read-change
-    legal-change-requires
+    (λ c. search needs) (λ c. search needs) (λ c. search needs)
     returns
     add-lowest
-    add-i
-    loop-less
+    (λ c. search needs) (λ c. search needs)
     loop-again
     returns-2)

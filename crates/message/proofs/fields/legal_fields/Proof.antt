@@ -50,9 +50,6 @@ returns-5 : tie.Need-returns-5
 unfolding legalMessage
 returns-5 c = simp (lt-leb _ _ (c .before .if5 .taken), ne-eqb _ _ (c .if6 .taken), and-no)
 
-legal-changes-requires : tie.Need-legal-changes-requires
-legal-changes-requires c κs = search needs
-
 returns-6 : tie.Need-returns-6
 unfolding legalMessage
 returns-6 c =
@@ -67,4 +64,4 @@ returns-6 c =
 pub legal-fields-spec : {M : Type 1} → statement M
 legal-fields-spec =
     tie.close
-    (tie.spec returns returns-2 returns-3 returns-4 returns-5 legal-changes-requires returns-6)
+    (tie.spec returns returns-2 returns-3 returns-4 returns-5 (λ c. search needs) returns-6)

@@ -20,21 +20,6 @@ abbrev μ-loop : tie.MeasureT-loop
 loop-holds : tie.Need-loop-holds Inv-loop μ-loop
 loop-holds c = (search needs, refl)
 
-change-at-requires : tie.Need-change-at-requires Inv-loop μ-loop
-change-at-requires c κs = search needs
-
-mul-changes : tie.Need-mul-changes Inv-loop μ-loop
-mul-changes c = search needs
-
-array-write-changes : tie.Need-array-write-changes Inv-loop μ-loop
-array-write-changes c = search needs
-
-add-i : tie.Need-add-i Inv-loop μ-loop
-add-i c = search needs
-
-loop-less : tie.Need-loop-less Inv-loop μ-loop
-loop-less c = search needs
-
 loop-again : tie.Need-loop-again Inv-loop μ-loop
 loop-again c =
     let here = c .before .before .loop in
@@ -53,10 +38,6 @@ changes-in-spec =
     Inv-loop
     μ-loop
     loop-holds
-    change-at-requires
-    mul-changes
-    array-write-changes
-    add-i
-    loop-less
+    (λ c. search needs) (λ c. search needs) (λ c. search needs) (λ c. search needs) (λ c. search needs)
     loop-again
     returns)

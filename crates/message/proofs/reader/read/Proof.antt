@@ -7,26 +7,11 @@ use Rattle.message.proofs.Readings.{bad-count, not-framed, framed-lengt
 use Rattle.message.proofs.reader.read.Statement.{statement}
 use Rattle.message.proofs.reader.read.Tie as tie
 
-refused-requires : tie.Need-refused-requires
-refused-requires c κs = search needs
-
 returns : tie.Need-returns
 returns c = c .refused .ensures ∙ sym (bad-count _ _ (count-low _ (c .before .if1 .taken)))
 
-cast-if2 : tie.Need-cast-if2
-cast-if2 c = search needs
-
-refused-requires-2 : tie.Need-refused-requires-2
-refused-requires-2 c κs = search needs
-
 returns-2 : tie.Need-returns-2
 returns-2 c = c .refused2 .ensures ∙ sym (bad-count _ _ (count-high _ (c .before .if2 .taken)))
-
-is-framed-requires : tie.Need-is-framed-requires
-is-framed-requires c κs = search needs
-
-refused-requires-3 : tie.Need-refused-requires-3
-refused-requires-3 c κs = search needs
 
 returns-3 : tie.Need-returns-3
 returns-3 c =
@@ -40,20 +25,15 @@ read-framed-requires c κs =
     let framed = sym (c .before .is-framed .ensures) ∙ not-false _ (c .if3 .left) in
     record { two = search needs; limit = search needs; framed = framed; long = framed-length _ framed }
 
-returns-4 : tie.Need-returns-4
-returns-4 c = search needs
-
 pub read-spec : {M : Type 1} → statement M
 read-spec =
     tie.close
     (tie.spec
-    refused-requires
+    (λ c. search needs)
     returns
-    cast-if2
-    refused-requires-2
+    (λ c. search needs) (λ c. search needs)
     returns-2
-    is-framed-requires
-    refused-requires-3
+    (λ c. search needs) (λ c. search needs)
     returns-3
     read-framed-requires
-    returns-4)
+    (λ c. search needs))

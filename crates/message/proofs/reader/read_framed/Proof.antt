@@ -9,50 +9,14 @@ use Rattle.message.proofs.Readings.{too-many-entries, by-fields, found-
 use Rattle.message.proofs.reader.read_framed.Statement.{statement}
 use Rattle.message.proofs.reader.read_framed.Tie as tie
 
-shared-slice-read-wide : tie.Need-shared-slice-read-wide
-shared-slice-read-wide c = search needs
-
-wide-requires : tie.Need-wide-requires
-wide-requires c κs = search needs
-
-cast-entries : tie.Need-cast-entries
-cast-entries c = search needs
-
-refused-requires : tie.Need-refused-requires
-refused-requires c κs = search needs
-
 returns : tie.Need-returns
 returns c =
     let start = c .before .before .before .before .before in
     let many : start .args .count ≤ at (start .args .bytes .now) 3 = rw (c .before .before .wide .ensures .0) at (c .before .if1 .taken) in
     c .refused .ensures ∙ sym (by-fields _ _ (start .pre) false (too-many-entries _ _ (start .pre .two) many))
 
-shared-slice-read-wide-2 : tie.Need-shared-slice-read-wide-2
-shared-slice-read-wide-2 c = search needs
-
-wide-requires-2 : tie.Need-wide-requires-2
-wide-requires-2 c κs = search needs
-
-shared-slice-read-wide-3 : tie.Need-shared-slice-read-wide-3
-shared-slice-read-wide-3 c = search needs
-
-wide-requires-3 : tie.Need-wide-requires-3
-wide-requires-3 c κs = search needs
-
-changes-in-requires : tie.Need-changes-in-requires
-changes-in-requires c κs = search needs
-
-array-share-prefix-changes : tie.Need-array-share-prefix-changes
-array-share-prefix-changes c = search needs
-
 slice-aggregate-legal-fields : tie.Need-slice-aggregate-legal-fields
 slice-aggregate-legal-fields c = found-length _ _ _ (c .before .changes-in .ensures)
-
-legal-fields-requires : tie.Need-legal-fields-requires
-legal-fields-requires c κs = search needs
-
-refused-requires-2 : tie.Need-refused-requires-2
-refused-requires-2 c κs = search needs
 
 returns-2 : tie.Need-returns-2
 returns-2 c =
@@ -83,19 +47,11 @@ pub read-framed-spec : {M : Type 1} → statement M
 read-framed-spec =
     tie.close
     (tie.spec
-    shared-slice-read-wide
-    wide-requires
-    cast-entries
-    refused-requires
+    (λ c. search needs) (λ c. search needs) (λ c. search needs) (λ c. search needs)
     returns
-    shared-slice-read-wide-2
-    wide-requires-2
-    shared-slice-read-wide-3
-    wide-requires-3
-    changes-in-requires
-    array-share-prefix-changes
+    (λ c. search needs) (λ c. search needs) (λ c. search needs) (λ c. search needs) (λ c. search needs)
+    (λ c. search needs)
     slice-aggregate-legal-fields
-    legal-fields-requires
-    refused-requires-2
+    (λ c. search needs) (λ c. search needs)
     returns-2
     returns-3)

@@ -45,51 +45,6 @@ unfolding bodyBytes
 loop-holds c =
     (search needs, c .contents .ensures ∙ no-bodies (c .before .before .args .kind) (c .before .before .args .sender) (c .before .before .args .changes .now))
 
-mul-change : tie.Need-mul-change Inv-loop μ-loop
-mul-change c = search needs
-
-shared-slice-read-change : tie.Need-shared-slice-read-change Inv-loop μ-loop
-shared-slice-read-change c = search needs
-
-add-at : tie.Need-add-at Inv-loop μ-loop
-add-at c = search needs
-
-mul-at : tie.Need-mul-at Inv-loop μ-loop
-mul-at c = search needs
-
-add-at-2 : tie.Need-add-at-2 Inv-loop μ-loop
-add-at-2 c = search needs
-
-cast-built : tie.Need-cast-built Inv-loop μ-loop
-cast-built c = search needs
-
-array-write-built : tie.Need-array-write-built Inv-loop μ-loop
-array-write-built c = search needs
-
-cast-built-2 : tie.Need-cast-built-2 Inv-loop μ-loop
-cast-built-2 c = search needs
-
-add-built : tie.Need-add-built Inv-loop μ-loop
-add-built c = search needs
-
-array-write-built-2 : tie.Need-array-write-built-2 Inv-loop μ-loop
-array-write-built-2 c = search needs
-
-cast-built-3 : tie.Need-cast-built-3 Inv-loop μ-loop
-cast-built-3 c = search needs
-
-add-built-2 : tie.Need-add-built-2 Inv-loop μ-loop
-add-built-2 c = search needs
-
-array-write-built-3 : tie.Need-array-write-built-3 Inv-loop μ-loop
-array-write-built-3 c = search needs
-
-add-i : tie.Need-add-i Inv-loop μ-loop
-add-i c = search needs
-
-loop-less : tie.Need-loop-less Inv-loop μ-loop
-loop-less c = search needs
-
 loop-again : tie.Need-loop-again Inv-loop μ-loop
 loop-again c =
     let here = c .before .before .loop in
@@ -109,20 +64,8 @@ build-spec =
     μ-loop
     contents-requires
     loop-holds
-    mul-change
-    shared-slice-read-change
-    add-at
-    mul-at
-    add-at-2
-    cast-built
-    array-write-built
-    cast-built-2
-    add-built
-    array-write-built-2
-    cast-built-3
-    add-built-2
-    array-write-built-3
-    add-i
-    loop-less
+    (λ c. search needs) (λ c. search needs) (λ c. search needs) (λ c. search needs) (λ c. search needs)
+    (λ c. search needs) (λ c. search needs) (λ c. search needs) (λ c. search needs) (λ c. search needs)
+    (λ c. search needs) (λ c. search needs) (λ c. search needs) (λ c. search needs) (λ c. search needs)
     loop-again
     returns)

@@ -33,54 +33,12 @@ Inv-loop kind sender changes built₀ i₀ built i =
 abbrev μ-loop : tie.MeasureT-loop
 μ-loop kind sender changes built₀ i₀ built i = length changes - i
 
-array-write-built : tie.Need-array-write-built Inv-loop μ-loop
-array-write-built c = search needs
-
-cast-built : tie.Need-cast-built Inv-loop μ-loop
-cast-built c = search needs
-
-array-write-built-2 : tie.Need-array-write-built-2 Inv-loop μ-loop
-array-write-built-2 c = search needs
-
-cast-built-2 : tie.Need-cast-built-2 Inv-loop μ-loop
-cast-built-2 c = search needs
-
-array-write-built-3 : tie.Need-array-write-built-3 Inv-loop μ-loop
-array-write-built-3 c = search needs
-
-cast-built-3 : tie.Need-cast-built-3 Inv-loop μ-loop
-cast-built-3 c = search needs
-
-array-write-built-4 : tie.Need-array-write-built-4 Inv-loop μ-loop
-array-write-built-4 c = search needs
-
 loop-holds : tie.Need-loop-holds Inv-loop μ-loop
 loop-holds c =
     let sender = low-byte (c .args .sender) (c .pre .small-sender) in
     let kind = low-byte (c .args .kind) (c .pre .small-kind) in
     let number = low-byte (length (c .args .changes .now)) (omega arith) in
     (search needs, rw (sender, kind, number))
-
-mul-built : tie.Need-mul-built Inv-loop μ-loop
-mul-built c = search needs
-
-shared-slice-read-built : tie.Need-shared-slice-read-built Inv-loop μ-loop
-shared-slice-read-built c = search needs
-
-cast-built-4 : tie.Need-cast-built-4 Inv-loop μ-loop
-cast-built-4 c = search needs
-
-add-built : tie.Need-add-built Inv-loop μ-loop
-add-built c = search needs
-
-array-write-built-5 : tie.Need-array-write-built-5 Inv-loop μ-loop
-array-write-built-5 c = search needs
-
-add-i : tie.Need-add-i Inv-loop μ-loop
-add-i c = search needs
-
-loop-less : tie.Need-loop-less Inv-loop μ-loop
-loop-less c = search needs
 
 loop-again : tie.Need-loop-again Inv-loop μ-loop
 loop-again c =
@@ -98,20 +56,10 @@ contents-spec =
     (tie.spec
     Inv-loop
     μ-loop
-    array-write-built
-    cast-built
-    array-write-built-2
-    cast-built-2
-    array-write-built-3
-    cast-built-3
-    array-write-built-4
+    (λ c. search needs) (λ c. search needs) (λ c. search needs) (λ c. search needs) (λ c. search needs)
+    (λ c. search needs) (λ c. search needs)
     loop-holds
-    mul-built
-    shared-slice-read-built
-    cast-built-4
-    add-built
-    array-write-built-5
-    add-i
-    loop-less
+    (λ c. search needs) (λ c. search needs) (λ c. search needs) (λ c. search needs) (λ c. search needs)
+    (λ c. search needs) (λ c. search needs)
     loop-again
     returns)

@@ -12,9 +12,6 @@ use Rattle.message.proofs.writer.refusal.Tie as tie
 returns : tie.Need-returns
 returns c = rw (count-low _ (c .if1 .taken))
 
-cast-if2 : tie.Need-cast-if2
-cast-if2 c = search needs
-
 returns-2 : tie.Need-returns-2
 returns-2 c = rw (count-high _ (c .if2 .taken))
 
@@ -25,9 +22,6 @@ returns-3 c =
 returns-4 : tie.Need-returns-4
 returns-4 c =
     rw (count-legal _ (c .before .before .before .if1 .left) (c .before .before .if2 .left), too-short _ _ _ (c .before .if3 .left) (c .if4 .taken))
-
-legal-fields-requires : tie.Need-legal-fields-requires
-legal-fields-requires c κs = search needs
 
 returns-5 : tie.Need-returns-5
 returns-5 c =
@@ -56,10 +50,10 @@ refusal-spec =
     tie.close
     (tie.spec
     returns
-    cast-if2
+    (λ c. search needs)
     returns-2
     returns-3
     returns-4
-    legal-fields-requires
+    (λ c. search needs)
     returns-5
     returns-6)

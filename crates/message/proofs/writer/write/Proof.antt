@@ -22,9 +22,6 @@ free : (c : lts.Else1 (refusal-reads.Asked, refusal-reads.Learnt, lay-reads.Aske
     (c .before .before .before .before .args .offset)
 free c = writable (c .before .before .before .before .args .count) _ _ _ (sym (c .before .refusal .ensures) ∙ c .if1 .left)
 
-refusal-requires : tie.Need-refusal-requires
-refusal-requires c κs = search needs
-
 returns : tie.Need-returns
 returns c =
     let args = c .before .before .before .before .args in
@@ -36,22 +33,10 @@ sub-lay c = omega (arith, free c .inside)
 part-lay-start : tie.Need-part-lay-start
 part-lay-start c = omega (arith, free c .inside)
 
-part-lay-end : tie.Need-part-lay-end
-part-lay-end c = search needs
-
 lay-requires : tie.Need-lay-requires
 lay-requires c κs =
     let can = free (c .before) in
     (can .fitting, simp (length-take, length-drop) (omega (arith, can .inside, can .room)))
-
-mul-t14 : tie.Need-mul-t14
-mul-t14 c = search needs
-
-add-t15 : tie.Need-add-t15
-add-t15 c = search needs
-
-same-length : tie.Need-same-length
-same-length c = search needs
 
 returns-2 : tie.Need-returns-2
 returns-2 c =
@@ -66,13 +51,11 @@ pub write-spec : {M : Type 1} → statement M
 write-spec =
     tie.close
     (tie.spec
-    refusal-requires
+    (λ c. search needs)
     returns
     sub-lay
     part-lay-start
-    part-lay-end
+    (λ c. search needs)
     lay-requires
-    mul-t14
-    add-t15
-    same-length
+    (λ c. search needs) (λ c. search needs) (λ c. search needs)
     returns-2)

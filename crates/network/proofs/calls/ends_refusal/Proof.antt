@@ -5,7 +5,7 @@ use mathlib.Core.Path.{_≡_, sym, _∙_}
 use borrow.Author.Needs.{needs}
 use borrow.Author.Tests.{not-true, not-false}
 use Rattle.rules.specs.Tables.{fitTables}
-use Rattle.network.proofs.Asking.{fit-length}
+use Rattle.fitness.proofs.FitTables.{fit-length}
 use Rattle.network.proofs.calls.ends_refusal.Statement.{statement}
 use Rattle.network.proofs.calls.ends_refusal.Tie as tie
 
@@ -13,9 +13,6 @@ use Rattle.network.proofs.calls.ends_refusal.Tie as tie
 fits : (c : tie.Else1) → let s = c .before .before .before .before .args in
     fitTables (s .words .now) (s .queues .now) ≡ true
 fits c = sym (c .before .is-fit .ensures) ∙ not-false (c .before .is-fit .result) (c .if1 .left)
-
-is-fit-requires : tie.Need-is-fit-requires
-is-fit-requires c κs = search needs
 
 returns : tie.Need-returns
 returns c = rw (sym (c .before .is-fit .ensures) ∙ not-true (c .before .is-fit .result) (c .if1 .taken))
@@ -25,9 +22,6 @@ shared-slice-read-are-bad-ends c =
     let s = c .before .before .before .before .before .args in
     omega (arith, fit-length (s .words .now) (s .queues .now) (fits (c .before)))
 
-are-bad-ends-requires : tie.Need-are-bad-ends-requires
-are-bad-ends-requires c κs = search needs
-
 returns-2 : tie.Need-returns-2
 returns-2 c = rw (fits (c .before .before .before), sym (c .before .are-bad-ends .ensures) ∙ c .if2 .taken)
 
@@ -36,4 +30,4 @@ returns-3 c = rw (fits (c .before .before .before), sym (c .before .are-bad-ends
 
 pub ends-refusal-spec : {M : Type 1} → statement M
 ends-refusal-spec =
-    tie.close (tie.spec is-fit-requires returns shared-slice-read-are-bad-ends are-bad-ends-requires returns-2 returns-3)
+    tie.close (tie.spec (λ c. search needs) returns shared-slice-read-are-bad-ends (λ c. search needs) returns-2 returns-3)

@@ -1,210 +1,41 @@
--- `network::calls::network_down` meets its contract: past its first refusals it is an event at each end, in the network
--- whose queues of the link are emptied.
+-- `network::calls::network_down` meets its contract: past its first refusals it is an event at each end, in the network whose
+-- queues of the link are emptied.
 use mathlib.Core.Bool.{true}
-use mathlib.Core.List.{[]}
-use mathlib.Core.Path.{_≡_, sym, _∙_}
 use borrow.Author.Needs.{needs}
-use borrow.Author.Tests.{not-true, not-false}
-use Rattle.ground.specs.Rows.{at}
-use Rattle.rules.specs.Network.{down, withQueue}
-use Rattle.rules.specs.NetworkTable.{networkRefusal}
-use Rattle.rules.specs.Tables.{networkFrom}
-use Rattle.loopfree.proofs.Shape.{emptied}
-use Rattle.network.specs.Parcels.{hasRoom}
-use Rattle.network.specs.Telling.{usedBy}
-use Rattle.network.proofs.Answering.{refused-early}
-use Rattle.network.proofs.Refusing.{Sizes, down-parts, link-sizes}
-use Rattle.network.proofs.Started.{down-pair}
-use Rattle.network.proofs.Tabled.{Tabled, bytes-length, cleared, may-look}
-use Rattle.network.proofs.TwoEvents.{Pair, full-a, full-b, first-may, second-may, both-done}
+use Rattle.network.proofs.calls.CallEvents.{down-refused, down-pair, link-emptied}
+use Rattle.network.proofs.calls.TwoEvents.{both-answer}
 use Rattle.network.proofs.calls.network_down.Statement.{statement}
 use Rattle.network.proofs.calls.network_down.Tie as tie
 
--- What is known past the first refusals.
-entered : (c : tie.Else1)
-    → let s = c .before .before .before .before .before .before .args in
-    Sizes (s .words .now) (s .queues .now) (s .a) (s .b)
-entered c =
-    let s = c .before .before .before .before .before .before .args in
-    link-sizes (s .words .now) (s .queues .now) (s .a) (s .b)
-    (sym (c .before .link-refusal .ensures) ∙ c .if1 .left)
-
--- The call is two events.
-started : (c : tie.After-down2)
-    → let s = c .before .before .before .before .before .before .before .before .before .before .before .args in
-    Pair (s .words .now) (s .queues .now) (down (s .a) (s .b))
-    (emptied (networkFrom (s .words .now) (s .queues .now)) (s .a) (s .b)) (s .a) (s .b)
-    (c .before .before .down .result) (c .down2 .result)
-started c =
-    let s = c .before .before .before .before .before .before .before .before .before .before .before .args in
-    let e = c .before .before .before .before .before in
-    down-pair (s .words .now) (s .queues .now) (s .a) (s .b)
-    (sym (e .before .link-refusal .ensures) ∙ e .if1 .left) (c .before .before .down .ensures) (c .down2 .ensures)
-
--- The messages of both find room.
-rooms : (c : tie.Else3)
-    → let t = c .before .before .before .before .before .before in
-    let s = t .before .before .before .before .before .before .before .before .before .before .before .args in
-    let one = t .before .before .down .result in
-    let two = t .down2 .result in
-    (hasRoom (s .queues .now) (at (s .words .now) 0) (s .a) (one .sent) (usedBy one) ≡ true)
-    × (hasRoom (s .queues .now) (at (s .words .now) 0) (s .b) (two .sent) (usedBy two) ≡ true)
-rooms c = (
-  sym (c .before .before .before .before .has-room .ensures) ∙ not-false _ (c .before .before .before .if2 .left),
-  sym (c .before .has-room2 .ensures) ∙ not-false _ (c .if3 .left),
-)
-
--- The tables once one queue of the link is emptied.
-half : (c : tie.After-clear)
-    → let s = c .before .before .before .before .before .before .before .before
-    .before .before .before .before .before .before .before .before .before .before .before .args in
-    Tabled (at (s .words .now) 0) (s .words .now) (c .clear .last .0)
-    (withQueue (networkFrom (s .words .now) (s .queues .now)) (s .a) (s .b) [])
-half c =
-    let k = started (c .before .before .before .before .before .before .before .before) in
-    cleared (k .first .tabled) _ _ (k .first .place) (k .second .place) (c .clear .ensures)
-
--- Once both are.
-held : (c : tie.After-clear2)
-    → let s = c .before .before .before .before .before .before .before .before .before .before .before .before
-    .before .before .before .before .before .before .before .before .before .before .before .args in
-    Tabled (at (s .words .now) 0) (s .words .now) (c .clear2 .last .0)
-    (emptied (networkFrom (s .words .now) (s .queues .now)) (s .a) (s .b))
-held c =
-    let k = started (c .before .before .before .before .before .before .before .before .before .before .before .before) in
-    cleared (half (c .before .before .before .before)) _ _ (k .second .place) (k .first .place) (c .clear2 .ensures)
-
-link-refusal-requires : tie.Need-link-refusal-requires
-link-refusal-requires c κs = search needs
-
-same-length : tie.Need-same-length
-same-length c = search needs
-
-same-length-2 : tie.Need-same-length-2
-same-length-2 c = search needs
+-- The function's entry, as the place after the first refusals sees it.
+abbrev start : tie.After-first-refusal → tie.Start
+start c = c .before .before .before .before .before
 
 returns : tie.Need-returns
-unfolding networkRefusal
 returns c =
-    let s = c .before .before .before .before .before .before .args in
-    refused-early (s .words .now) (s .queues .now) (down (s .a) (s .b)) _
-    (down-parts (s .words .now) (s .queues .now) (s .a) (s .b) _)
-    (c .before .link-refusal .ensures) (c .if1 .taken)
-
-slice-read-count : tie.Need-slice-read-count
-slice-read-count c =
-    let k = entered (c .before) in
-    search needs
-
-cast-count : tie.Need-cast-count
-cast-count c =
-    let k = entered (c .before) in
-    search needs
-
-down-requires : tie.Need-down-requires
-down-requires c κs =
-    let k = entered (c .before .before) in
-    search needs
-
-down-requires-2 : tie.Need-down-requires-2
-down-requires-2 c κs =
-    let k = entered (c .before .before .before .before) in
-    search needs
-
-has-room-requires : tie.Need-has-room-requires
-has-room-requires c κs = may-look (started (c .before) .first)
-
-same-length-3 : tie.Need-same-length-3
-same-length-3 c = search needs
-
-same-length-4 : tie.Need-same-length-4
-same-length-4 c = search needs
+    let s = start (c .before) .args in
+    down-refused (s .words .now) (s .queues .now) (s .a) (s .b) (c .before .first-refusal .ensures) (c .if1 .taken)
 
 returns-2 : tie.Need-returns-2
 returns-2 c =
-    full-a (started (c .before .before .before)) (sym (c .before .has-room .ensures) ∙ not-true _ (c .if2 .taken))
-
-has-room-requires-2 : tie.Need-has-room-requires-2
-has-room-requires-2 c κs = may-look (started (c .before .before .before .before) .second)
-
-same-length-5 : tie.Need-same-length-5
-same-length-5 c = search needs
-
-same-length-6 : tie.Need-same-length-6
-same-length-6 c = search needs
-
-returns-3 : tie.Need-returns-3
-returns-3 c =
-    full-b (started (c .before .before .before .before .before .before))
-    (sym (c .before .has-room2 .ensures) ∙ not-true _ (c .if3 .taken))
-
-clear-requires : tie.Need-clear-requires
-clear-requires c κs =
-    let k = entered (c .before .before .before .before .before .before .before .before .before .before .before .before) in
-    search needs
-
-clear-requires-2 : tie.Need-clear-requires-2
-clear-requires-2 c κs =
-    let e = c .before .before .before .before .before in
-    let k = entered (e .before .before .before .before .before .before .before .before .before .before .before) in
-    (k .second, k .first, bytes-length (half (c .before .before .before)))
-
-happens-requires : tie.Need-happens-requires
-happens-requires c κs =
-    let h = c .before .before .before .before in
-    let e = h .before .before .before .before .before .before in
-    let r = rooms e in
-    first-may (started (e .before .before .before .before .before .before)) (held h) (r .0) (r .1)
-
-happens-requires-2 : tie.Need-happens-requires-2
-happens-requires-2 c κs =
-    let first = c .before .before .before .before .before .before in
-    let h = first .before .before .before .before .before in
-    let e = h .before .before .before .before .before .before in
-    let r = rooms e in
-    second-may (started (e .before .before .before .before .before .before)) (held h) (r .0) (r .1)
-    (first .happens .ensures .0) (first .happens .ensures .1)
-
-same-length-7 : tie.Need-same-length-7
-same-length-7 c = search needs
-
-same-length-8 : tie.Need-same-length-8
-same-length-8 c = search needs
-
-returns-4 : tie.Need-returns-4
-returns-4 c =
-    let second = c .before .before .before .before in
-    let first = second .before .before .before .before .before .before .before in
-    let h = first .before .before .before .before .before in
-    let e = h .before .before .before .before .before .before in
-    let r = rooms e in
-    both-done (started (e .before .before .before .before .before .before)) (held h) (r .0) (r .1)
-    (first .happens .ensures .0) (first .happens .ensures .1) (second .happens2 .ensures .0) (second .happens2 .ensures .1)
+    let last = c .before .before .before .before in
+    let two = last .before .before .before in
+    let one = two .before .before in
+    let fork = one .before .before in
+    let first = fork .before in
+    let s = start first .args in
+    both-answer
+    (down-pair (s .words .now) (s .queues .now) (s .a) (s .b) (first .first-refusal .ensures) (fork .if1 .left)
+    (one .tell .ensures) (two .tell2 .ensures))
+    true
+    (link-emptied (s .words .now) (s .queues .now) (s .a) (s .b) (first .first-refusal .ensures) (fork .if1 .left))
+    (last .at-both .ensures)
 
 pub network-down-spec : {M : Type 1} → statement M
 network-down-spec =
     tie.close
     (tie.spec
-    link-refusal-requires
-    same-length
-    same-length-2
+    (λ c. search needs) (λ c. search needs) (λ c. search needs)
     returns
-    slice-read-count
-    cast-count
-    down-requires
-    down-requires-2
-    has-room-requires
-    same-length-3
-    same-length-4
-    returns-2
-    has-room-requires-2
-    same-length-5
-    same-length-6
-    returns-3
-    clear-requires
-    clear-requires-2
-    happens-requires
-    happens-requires-2
-    same-length-7
-    same-length-8
-    returns-4)
+    (λ c. search needs) (λ c. search needs) (λ c. search needs) (λ c. search needs) (λ c. search needs)
+    returns-2)

@@ -9,7 +9,7 @@ use Rattle.ground.specs.Rows.{zeros}
 use Rattle.ground.proofs.Limits.{count-legal, count-low, count-high}
 use Rattle.rules.specs.NetworkTable.{freshWords, freshBytes}
 use Rattle.rules.specs.Tables.{networkWords, networkBytes}
-use Rattle.network.proofs.Fresh.{fresh-queues}
+use Rattle.network.proofs.fresh.FreshTables.{fresh-queues}
 use Rattle.network.proofs.questions.network_fresh.Statement.{statement}
 use Rattle.network.proofs.questions.network_fresh.Tie as tie
 
@@ -22,9 +22,6 @@ unfolding freshWords freshBytes
 returns c =
     let low = count-low (c .before .before .before .args .count) (c .if1 .taken) in
     (rw low, (rw low, rw low))
-
-cast-if2 : tie.Need-cast-if2
-cast-if2 c = search needs
 
 returns-2 : tie.Need-returns-2
 unfolding freshWords freshBytes
@@ -47,23 +44,11 @@ returns-4 c =
     let bytes = ne-eqb _ networkBytes (c .if4 .taken) in
     (rw (legal, numbers, bytes), (rw (legal, numbers, bytes), rw (legal, numbers, bytes)))
 
-clear-numbers-requires : tie.Need-clear-numbers-requires
-clear-numbers-requires c κs = search needs
-
-clear-bytes-requires : tie.Need-clear-bytes-requires
-clear-bytes-requires c κs = search needs
-
 fresh-units-requires : tie.Need-fresh-units-requires
 fresh-units-requires c κs =
     let cleared = c .before .before .before .before .before .before .before in
     let tests = cleared .before .before in
-    (omega arith, omega arith, cleared .clear-numbers .ensures ∙ ap zeros (tests .before .if3 .left))
-
-same-length : tie.Need-same-length
-same-length c = search needs
-
-same-length-2 : tie.Need-same-length-2
-same-length-2 c = search needs
+    (omega arith, omega arith, cleared .clear .ensures ∙ ap zeros (tests .before .if3 .left))
 
 returns-5 : tie.Need-returns-5
 unfolding freshWords freshBytes
@@ -78,7 +63,7 @@ returns-5 c =
       rw (legal, numbers, bytes),
       (
         rw (legal, numbers, bytes) (c .before .before .fresh-units .ensures),
-        rw (legal, numbers, bytes) (cleared .clear-bytes .ensures ∙ ap zeros (tests .if4 .left) ∙ empty),
+        rw (legal, numbers, bytes) (cleared .clear2 .ensures ∙ ap zeros (tests .if4 .left) ∙ empty),
       ),
     )
 
@@ -87,13 +72,11 @@ network-fresh-spec =
     tie.close
     (tie.spec
     returns
-    cast-if2
+    (λ c. search needs)
     returns-2
     returns-3
     returns-4
-    clear-numbers-requires
-    clear-bytes-requires
+    (λ c. search needs) (λ c. search needs)
     fresh-units-requires
-    same-length
-    same-length-2
+    (λ c. search needs) (λ c. search needs)
     returns-5)

@@ -5,9 +5,10 @@ use borrow.Author.Needs.{needs}
 use Rattle.ground.specs.Refusal.{accepted}
 use Rattle.rules.specs.NetworkTable.{unitRefusal, stateAnswer}
 use Rattle.rules.specs.Tables.{unitWords}
-use Rattle.unit.proofs.Answers.{refused}
-use Rattle.network.proofs.Asking.{unit-asked, table-inside, state-asked}
-use Rattle.network.proofs.Stretches.{lent}
+use Rattle.state.proofs.Answers.{refused}
+use Rattle.fitness.proofs.FitTables.{table-there}
+use Rattle.network.proofs.questions.UnitAnswers.{unit-asked, state-asked}
+use Rattle.queues.proofs.Stretches.{lent}
 use Rattle.network.proofs.questions.network_state.Statement.{statement}
 use Rattle.network.proofs.questions.network_state.Tie as tie
 
@@ -17,37 +18,16 @@ nothing-refused : (c : tie.Else1)
     unitRefusal (args .words .now) (args .queues .now) (args .i) ≡ accepted
 nothing-refused c = sym (c .before .unit-refusal .ensures) ∙ c .if1 .left
 
-unit-refusal-requires : tie.Need-unit-refusal-requires
-unit-refusal-requires c κs = search needs
-
 returns : tie.Need-returns
 unfolding stateAnswer
 returns c = refused _ (c .before .unit-refusal .ensures) (c .if1 .taken)
-
-mul-from : tie.Need-mul-from
-mul-from c = search needs
-
-add-active : tie.Need-add-active
-add-active c = search needs
-
-mul-active : tie.Need-mul-active
-mul-active c = search needs
-
-sub-active : tie.Need-sub-active
-sub-active c = search needs
-
-part-active-start : tie.Need-part-active-start
-part-active-start c = search needs
 
 part-active-end : tie.Need-part-active-end
 part-active-end c =
     let args = c .before .before .before .before .args in
     let known = unit-asked (args .words .now) (args .queues .now) (args .i) (nothing-refused c) in
-    let inside = table-inside (args .words .now) (args .queues .now) (known .0) (args .i) (known .1) in
+    let there = table-there (args .words .now) (args .queues .now) (known .0) (args .i) (known .1) in
     search needs
-
-active-requires : tie.Need-active-requires
-active-requires c κs = search needs
 
 returns-2 : tie.Need-returns-2
 returns-2 c =
@@ -59,13 +39,9 @@ pub network-state-spec : {M : Type 1} → statement M
 network-state-spec =
     tie.close
     (tie.spec
-    unit-refusal-requires
+    (λ c. search needs)
     returns
-    mul-from
-    add-active
-    mul-active
-    sub-active
-    part-active-start
+    (λ c. search needs) (λ c. search needs) (λ c. search needs) (λ c. search needs) (λ c. search needs)
     part-active-end
-    active-requires
+    (λ c. search needs)
     returns-2)

@@ -7,7 +7,8 @@ use borrow.Author.Needs.{needs}
 use borrow.Author.Tests.{lt-ltb, le-ltb}
 use Rattle.ground.specs.Rows.{at}
 use Rattle.rules.specs.Tables.{networkFrom, fitTables}
-use Rattle.network.proofs.Asking.{fit-length, unit-asked, pair-refused}
+use Rattle.fitness.proofs.FitTables.{fit-length}
+use Rattle.network.proofs.questions.UnitAnswers.{unit-asked, pair-refused}
 use Rattle.network.proofs.questions.pair_refusal.Statement.{statement}
 use Rattle.network.proofs.questions.pair_refusal.Tie as tie
 
@@ -18,9 +19,6 @@ known : (c : tie.Else1)
 known c =
     let args = c .before .before .before .before .args in
     unit-asked (args .words .now) (args .queues .now) (args .i) (sym (c .before .unit-refusal .ensures) ∙ c .if1 .left)
-
-unit-refusal-requires : tie.Need-unit-refusal-requires
-unit-refusal-requires c κs = search needs
 
 returns : tie.Need-returns
 returns c =
@@ -52,4 +50,4 @@ returns-3 c =
 
 pub pair-refusal-spec : {M : Type 1} → statement M
 pair-refusal-spec =
-    tie.close (tie.spec unit-refusal-requires returns shared-slice-read-if2 returns-2 returns-3)
+    tie.close (tie.spec (λ c. search needs) returns shared-slice-read-if2 returns-2 returns-3)

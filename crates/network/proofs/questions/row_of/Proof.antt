@@ -6,8 +6,9 @@ use Rattle.ground.specs.Refusal.{accepted}
 use Rattle.rules.specs.NetworkTable.{unitRefusal}
 use Rattle.rules.specs.Tables.{unitWords}
 use Rattle.network.specs.Asking.{rowAt}
-use Rattle.network.proofs.Asking.{unit-asked, table-inside, row-refused, row-asked}
-use Rattle.network.proofs.Stretches.{lent}
+use Rattle.fitness.proofs.FitTables.{table-there}
+use Rattle.network.proofs.questions.UnitAnswers.{unit-asked, row-refused, row-asked}
+use Rattle.queues.proofs.Stretches.{lent}
 use Rattle.network.proofs.questions.row_of.Statement.{statement}
 use Rattle.network.proofs.questions.row_of.Tie as tie
 
@@ -17,12 +18,6 @@ nothing-refused : (c : tie.Else1)
     unitRefusal (args .words .now) (args .queues .now) (args .i) ≡ accepted
 nothing-refused c = sym (c .before .unit-refusal .ensures) ∙ c .if1 .left
 
-unit-refusal-requires : tie.Need-unit-refusal-requires
-unit-refusal-requires c κs = search needs
-
-refused-requires : tie.Need-refused-requires
-refused-requires c κs = search needs
-
 returns : tie.Need-returns
 returns c =
     let args = c .before .before .before .before .before .args in
@@ -30,30 +25,12 @@ returns c =
     ∙ row-refused (args .words .now) (args .queues .now) (args .i) (c .before .before .unit-refusal .ensures)
     (c .before .if1 .taken)
 
-mul-from : tie.Need-mul-from
-mul-from c = search needs
-
-add-row-of : tie.Need-add-row-of
-add-row-of c = search needs
-
-mul-row-of : tie.Need-mul-row-of
-mul-row-of c = search needs
-
-sub-row-of : tie.Need-sub-row-of
-sub-row-of c = search needs
-
-part-row-of-start : tie.Need-part-row-of-start
-part-row-of-start c = search needs
-
 part-row-of-end : tie.Need-part-row-of-end
 part-row-of-end c =
     let args = c .before .before .before .before .args in
     let known = unit-asked (args .words .now) (args .queues .now) (args .i) (nothing-refused c) in
-    let inside = table-inside (args .words .now) (args .queues .now) (known .0) (args .i) (known .1) in
+    let there = table-there (args .words .now) (args .queues .now) (known .0) (args .i) (known .1) in
     search needs
-
-row-of-requires : tie.Need-row-of-requires
-row-of-requires c κs = search needs
 
 returns-2 : tie.Need-returns-2
 returns-2 c =
@@ -65,14 +42,9 @@ pub row-of-spec : {M : Type 1} → statement M
 row-of-spec =
     tie.close
     (tie.spec
-    unit-refusal-requires
-    refused-requires
+    (λ c. search needs) (λ c. search needs)
     returns
-    mul-from
-    add-row-of
-    mul-row-of
-    sub-row-of
-    part-row-of-start
+    (λ c. search needs) (λ c. search needs) (λ c. search needs) (λ c. search needs) (λ c. search needs)
     part-row-of-end
-    row-of-requires
+    (λ c. search needs)
     returns-2)

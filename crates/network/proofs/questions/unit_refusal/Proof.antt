@@ -6,7 +6,7 @@ use borrow.Author.Needs.{needs}
 use borrow.Author.Tests.{lt-ltb, le-ltb, not-true, not-false}
 use Rattle.ground.specs.Rows.{at}
 use Rattle.rules.specs.Tables.{networkFrom, fitTables}
-use Rattle.network.proofs.Asking.{fit-length}
+use Rattle.fitness.proofs.FitTables.{fit-length}
 use Rattle.network.proofs.questions.unit_refusal.Statement.{statement}
 use Rattle.network.proofs.questions.unit_refusal.Tie as tie
 
@@ -15,9 +15,6 @@ fits : (c : tie.Else1)
     → let args = c .before .before .before .before .args in
     fitTables (args .words .now) (args .queues .now) ≡ true
 fits c = sym (c .before .is-fit .ensures) ∙ not-false (c .before .is-fit .result) (c .if1 .left)
-
-is-fit-requires : tie.Need-is-fit-requires
-is-fit-requires c κs = search needs
 
 returns : tie.Need-returns
 returns c =
@@ -45,4 +42,4 @@ returns-3 c =
 
 pub unit-refusal-spec : {M : Type 1} → statement M
 unit-refusal-spec =
-    tie.close (tie.spec is-fit-requires returns shared-slice-read-if2 returns-2 returns-3)
+    tie.close (tie.spec (λ c. search needs) returns shared-slice-read-if2 returns-2 returns-3)

@@ -8,12 +8,6 @@ use Rattle.paths.specs.Tracing.{unitsIn}
 use Rattle.paths.proofs.tracer.chosen.Statement.{statement}
 use Rattle.paths.proofs.tracer.chosen.Tie as tie
 
-number-in-requires : tie.Need-number-in-requires
-number-in-requires c κs = search needs
-
-rem-unit-at : tie.Need-rem-unit-at
-rem-unit-at c = search needs
-
 unit-at-requires : tie.Need-unit-at-requires
 unit-at-requires c κs =
     (c .before .pre .0, rw (c .number-in .ensures) (mod-lt (c .before .args .choice) (c .before .pre .1)))
@@ -25,4 +19,4 @@ returns c =
     ∙ ap (λ (n : ℕ). at (unitsIn (args .count) (args .set)) (args .choice % n)) (c .before .number-in .ensures)
 
 pub chosen-spec : {M : Type 1} → statement M
-chosen-spec = tie.close (tie.spec number-in-requires rem-unit-at unit-at-requires returns)
+chosen-spec = tie.close (tie.spec (λ c. search needs) (λ c. search needs) unit-at-requires returns)

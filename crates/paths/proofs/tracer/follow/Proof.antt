@@ -51,9 +51,6 @@ cast-count c = omega (arith, fit-sized _ _ (c .before .before .before .before .p
 loop-holds : tie.Need-loop-holds Inv-loop μ-loop
 loop-holds c = begins _ _ _ _ _ (c .before .before .before .before .pre .begun)
 
-cast-path : tie.Need-cast-path Inv-loop μ-loop
-cast-path c = omega arith
-
 slice-write-path : tie.Need-slice-write-path Inv-loop μ-loop
 slice-write-path c = stored-inside (asked c) (c .loop .inv)
 
@@ -131,7 +128,7 @@ follow-spec =
     shared-slice-read-count
     cast-count
     loop-holds
-    cast-path
+    (λ c. omega arith)
     slice-write-path
     mul-set
     add-set

@@ -4,14 +4,8 @@ use Rattle.paths.proofs.Answers.{number-low}
 use Rattle.paths.proofs.tracer.network_trace.Statement.{statement}
 use Rattle.paths.proofs.tracer.network_trace.Tie as tie
 
-trace-requires : tie.Need-trace-requires
-trace-requires c κs = search needs
-
 number-of-requires : tie.Need-number-of-requires
 number-of-requires c κs = number-low _ _ _ _ _ _ (c .before .before .trace .ensures .0)
-
-same-length : tie.Need-same-length
-same-length c = search needs
 
 returns : tie.Need-returns
 returns c =
@@ -19,4 +13,4 @@ returns c =
     (rw (← called .ensures .0) (c .number-of .ensures), called .ensures .1)
 
 pub network-trace-spec : {M : Type 1} → statement M
-network-trace-spec = tie.close (tie.spec trace-requires number-of-requires same-length returns)
+network-trace-spec = tie.close (tie.spec (λ c. search needs) number-of-requires (λ c. search needs) returns)

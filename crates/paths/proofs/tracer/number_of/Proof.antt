@@ -6,17 +6,11 @@ use Rattle.paths.specs.Tracing.{traceNumber}
 use Rattle.paths.proofs.tracer.number_of.Statement.{statement}
 use Rattle.paths.proofs.tracer.number_of.Tie as tie
 
-enum-known-answer : tie.Need-enum-known-answer
-enum-known-answer c = search needs
-
 cast-result : tie.Need-cast-result
 cast-result c = omega (arith, ap traceNumber (c .before .answer .given .1))
 
 add-result : tie.Need-add-result
 add-result c = omega (arith, ap traceNumber (c .before .answer .given .1))
-
-enum-known-answer-2 : tie.Need-enum-known-answer-2
-enum-known-answer-2 c = search needs
 
 cast-result-2 : tie.Need-cast-result-2
 cast-result-2 c = omega (arith, ap traceNumber (c .before .answer2 .given .1))
@@ -24,17 +18,11 @@ cast-result-2 c = omega (arith, ap traceNumber (c .before .answer2 .given .1))
 add-result-2 : tie.Need-add-result-2
 add-result-2 c = omega (arith, ap traceNumber (c .before .answer2 .given .1))
 
-enum-known-answer-3 : tie.Need-enum-known-answer-3
-enum-known-answer-3 c = search needs
-
 cast-result-3 : tie.Need-cast-result-3
 cast-result-3 c = omega (arith, ap traceNumber (c .before .answer3 .given .1))
 
 add-result-3 : tie.Need-add-result-3
 add-result-3 c = omega (arith, ap traceNumber (c .before .answer3 .given .1))
-
-enum-known-answer-4 : tie.Need-enum-known-answer-4
-enum-known-answer-4 c = search needs
 
 returns : tie.Need-returns
 returns c = sym (ap traceNumber (c .before .answer .given .1))
@@ -45,24 +33,21 @@ returns-2 c = sym (ap traceNumber (c .before .answer2 .given .1))
 returns-3 : tie.Need-returns-3
 returns-3 c = sym (ap traceNumber (c .before .answer3 .given .1))
 
-returns-4 : tie.Need-returns-4
-returns-4 c = search needs
-
 pub number-of-spec : {M : Type 1} → statement M
 number-of-spec =
     tie.close
     (tie.spec
-    enum-known-answer
+    (λ c. search needs)
     cast-result
     add-result
-    enum-known-answer-2
+    (λ c. search needs)
     cast-result-2
     add-result-2
-    enum-known-answer-3
+    (λ c. search needs)
     cast-result-3
     add-result-3
-    enum-known-answer-4
+    (λ c. search needs)
     returns
     returns-2
     returns-3
-    returns-4)
+    (λ c. search needs))

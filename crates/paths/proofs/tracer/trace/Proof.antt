@@ -4,12 +4,6 @@ use Rattle.paths.proofs.Answers.{traceable, as-traced, as-refused}
 use Rattle.paths.proofs.tracer.trace.Statement.{statement}
 use Rattle.paths.proofs.tracer.trace.Tie as tie
 
-trace-refusal-requires : tie.Need-trace-refusal-requires
-trace-refusal-requires c κs = search needs
-
-same-length : tie.Need-same-length
-same-length c = search needs
-
 returns : tie.Need-returns
 returns c =
     let args = c .before .before .before .before .before .before .before .args in
@@ -20,9 +14,6 @@ follow-requires c κs =
     let going = c .before in
     let args = going .before .before .before .before .before .before .before .args in
     traceable _ _ _ _ (args .choices .now) (args .path .now) (going .before .trace-refusal .ensures) (going .if1 .left)
-
-same-length-2 : tie.Need-same-length-2
-same-length-2 c = search needs
 
 returns-2 : tie.Need-returns-2
 returns-2 c =
@@ -35,4 +26,4 @@ returns-2 c =
 pub trace-spec : {M : Type 1} → statement M
 trace-spec =
     tie.close
-    (tie.spec trace-refusal-requires same-length returns follow-requires same-length-2 returns-2)
+    (tie.spec (λ c. search needs) (λ c. search needs) returns follow-requires (λ c. search needs) returns-2)

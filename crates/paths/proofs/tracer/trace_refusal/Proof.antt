@@ -22,9 +22,6 @@ fits c = sym (c .before .is-fit .ensures) ∙ not-false (c .before .is-fit .resu
 sized : (c : tie.Else1) → Sized (c .before .before .before .before .before .before .args .words .now)
 sized c = fit-sized _ _ (fits c)
 
-is-fit-requires : tie.Need-is-fit-requires
-is-fit-requires c κs = search needs
-
 returns : tie.Need-returns
 returns c =
     let start = c .before .before .before .before .before .before in
@@ -69,9 +66,6 @@ returns-4 c =
     (path-too-short _ _ _ _ (args .choices .now) (args .path .now) (fits fit) (inside .before .before .if2 .left)
     (inside .if3 .left) (c .if4 .taken))
 
-sub-if5 : tie.Need-sub-if5
-sub-if5 c = search needs
-
 returns-5 : tie.Need-returns-5
 returns-5 c =
     let inside = c .before .before .before in
@@ -94,7 +88,7 @@ pub trace-refusal-spec : {M : Type 1} → statement M
 trace-refusal-spec =
     tie.close
     (tie.spec
-    is-fit-requires
+    (λ c. search needs)
     returns
     shared-slice-read-if2
     returns-2
@@ -103,6 +97,6 @@ trace-refusal-spec =
     shared-slice-read-count
     cast-count
     returns-4
-    sub-if5
+    (λ c. search needs)
     returns-5
     returns-6)

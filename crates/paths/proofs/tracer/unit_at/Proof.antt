@@ -25,15 +25,6 @@ returns c =
     met-at (c .before .before .before .loop .inv .2) (start .args .count) (omega arith) (omega arith)
     ∙ ap (at (unitsIn (start .args .count) (start .args .set))) (c .if2 .taken)
 
-add-before : tie.Need-add-before Inv-loop μ-loop
-add-before c = omega arith
-
-add-k : tie.Need-add-k Inv-loop μ-loop
-add-k c = omega arith
-
-loop-less : tie.Need-loop-less Inv-loop μ-loop
-loop-less c = omega arith
-
 loop-again : tie.Need-loop-again Inv-loop μ-loop
 loop-again c =
     let turn = c .before .before .loop in
@@ -52,4 +43,4 @@ returns-2 c =
 pub unit-at-spec : {M : Type 1} → statement M
 unit-at-spec =
     tie.close
-    (tie.spec Inv-loop μ-loop loop-holds returns add-before add-k loop-less loop-again returns-2)
+    (tie.spec Inv-loop μ-loop loop-holds returns (λ c. omega arith) (λ c. omega arith) (λ c. omega arith) loop-again returns-2)

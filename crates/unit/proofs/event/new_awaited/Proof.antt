@@ -19,33 +19,6 @@ abbrev μ-loop : tie.MeasureT-loop
 loop-holds : tie.Need-loop-holds Inv-loop μ-loop
 loop-holds c = (search needs, refl)
 
-mul-wait : tie.Need-mul-wait Inv-loop μ-loop
-mul-wait c = search needs
-
-array-read-wait : tie.Need-array-read-wait Inv-loop μ-loop
-array-read-wait c = search needs
-
-mul-wait-2 : tie.Need-mul-wait-2 Inv-loop μ-loop
-mul-wait-2 c = search needs
-
-array-read-wait-2 : tie.Need-array-read-wait-2 Inv-loop μ-loop
-array-read-wait-2 c = search needs
-
-wait-requires : tie.Need-wait-requires Inv-loop μ-loop
-wait-requires c κs = search needs
-
-mul-row : tie.Need-mul-row Inv-loop μ-loop
-mul-row c = search needs
-
-array-write-row : tie.Need-array-write-row Inv-loop μ-loop
-array-write-row c = search needs
-
-add-k : tie.Need-add-k Inv-loop μ-loop
-add-k c = search needs
-
-loop-less : tie.Need-loop-less Inv-loop μ-loop
-loop-less c = search needs
-
 loop-again : tie.Need-loop-again Inv-loop μ-loop
 loop-again c =
     let here = c .before .before .loop in
@@ -61,14 +34,7 @@ new-awaited-spec =
     Inv-loop
     μ-loop
     loop-holds
-    mul-wait
-    array-read-wait
-    mul-wait-2
-    array-read-wait-2
-    wait-requires
-    mul-row
-    array-write-row
-    add-k
-    loop-less
+    (λ c. search needs) (λ c. search needs) (λ c. search needs) (λ c. search needs) (λ c. search needs)
+    (λ c. search needs) (λ c. search needs) (λ c. search needs) (λ c. search needs)
     loop-again
     returns)

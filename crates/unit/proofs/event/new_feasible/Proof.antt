@@ -19,39 +19,6 @@ abbrev μ-loop : tie.MeasureT-loop
 loop-holds : tie.Need-loop-holds Inv-loop μ-loop
 loop-holds c = (search needs, refl)
 
-mul-lowered : tie.Need-mul-lowered Inv-loop μ-loop
-mul-lowered c = search needs
-
-array-read-lowered : tie.Need-array-read-lowered Inv-loop μ-loop
-array-read-lowered c = search needs
-
-mul-lowered-2 : tie.Need-mul-lowered-2 Inv-loop μ-loop
-mul-lowered-2 c = search needs
-
-array-read-lowered-2 : tie.Need-array-read-lowered-2 Inv-loop μ-loop
-array-read-lowered-2 c = search needs
-
-mul-lowered-3 : tie.Need-mul-lowered-3 Inv-loop μ-loop
-mul-lowered-3 c = search needs
-
-array-read-lowered-3 : tie.Need-array-read-lowered-3 Inv-loop μ-loop
-array-read-lowered-3 c = search needs
-
-lowered-requires : tie.Need-lowered-requires Inv-loop μ-loop
-lowered-requires c κs = search needs
-
-mul-row : tie.Need-mul-row Inv-loop μ-loop
-mul-row c = search needs
-
-array-write-row : tie.Need-array-write-row Inv-loop μ-loop
-array-write-row c = search needs
-
-add-j : tie.Need-add-j Inv-loop μ-loop
-add-j c = search needs
-
-loop-less : tie.Need-loop-less Inv-loop μ-loop
-loop-less c = search needs
-
 loop-again : tie.Need-loop-again Inv-loop μ-loop
 loop-again c =
     let here = c .before .before .loop in
@@ -67,16 +34,8 @@ new-feasible-spec =
     Inv-loop
     μ-loop
     loop-holds
-    mul-lowered
-    array-read-lowered
-    mul-lowered-2
-    array-read-lowered-2
-    mul-lowered-3
-    array-read-lowered-3
-    lowered-requires
-    mul-row
-    array-write-row
-    add-j
-    loop-less
+    (λ c. search needs) (λ c. search needs) (λ c. search needs) (λ c. search needs) (λ c. search needs)
+    (λ c. search needs) (λ c. search needs) (λ c. search needs) (λ c. search needs) (λ c. search needs)
+    (λ c. search needs)
     loop-again
     returns)

@@ -3,11 +3,12 @@ use mathlib.Core.Path.{_≡_, _∙_}
 use borrow.Author.Needs.{needs}
 use Rattle.rules.specs.Event.{changed}
 use Rattle.rules.specs.Tables.{laidRow}
-use Rattle.unit.specs.Holding.{unitOf}
+use Rattle.rules.specs.Unit.{isActive}
+use Rattle.state.specs.Holding.{unitOf}
 use Rattle.unit.specs.Reacted.{throughOf}
-use Rattle.unit.specs.Reacting.{treeBy}
-use Rattle.unit.proofs.Composed.{through-held, tree-composed, tree-rooted, composed, buffer-composed}
-use Rattle.unit.proofs.HeldFit.{held-high, held-flat}
+use Rattle.rules.specs.Event.{newTree}
+use Rattle.unit.proofs.Composed.{through-of, sets-of, tree-composed, tree-rooted, composed, buffer-composed}
+use Rattle.unit.proofs.HeldFit.{held-high, active-held}
 use denote.Ref.{now}
 use Rattle.unit.proofs.event.react.Statement.{statement}
 use Rattle.unit.proofs.event.react.Tie as tie
@@ -15,27 +16,21 @@ use Rattle.unit.proofs.event.react.Tie as tie
 -- The distances through neighbours.
 through-is : (c : tie.After-through-neighbours)
     → c .through-neighbours .result ≡ throughOf (unitOf (c .before .before .before .before .before .args .unit))
-through-is c = c .through-neighbours .ensures ∙ through-held (c .before .before .before .before .before .args .unit)
+through-is c =
+    let start = c .before .before .before .before .before in
+    through-of (start .args .unit) (start .pre .0) (c .through-neighbours .ensures)
+
+-- Whether the unit is ACTIVE.
+active-is : (c : tie.After-is-active)
+    → c .is-active .result ≡ isActive (unitOf (c .before .before .before .before .before .before .args .unit))
+active-is c = active-held (c .before .before .before .before .before .before .pre .0) (c .is-active .ensures)
 
 -- The new tree.
 tree-is : (c : tie.After-new-tree)
-    → c .new-tree .result ≡ laidRow (treeBy (unitOf (c .before .before .before .before .before .before .before .before .args .unit)) (c .before .before .before .before .before .before .before .before .args .was))
+    → c .new-tree .result ≡ laidRow (newTree (unitOf (c .before .before .before .before .before .before .before .before .args .unit)) (c .before .before .before .before .before .before .before .before .args .was))
 tree-is c =
     tree-composed (c .before .before .before .before .before .before .before .before .args .unit) (c .before .before .before .before .before .before .before .before .pre .0) (c .before .before .before .before .before .before .before .before .args .was)
-    (c .before .before .is-active .ensures) (c .before .both .ensures) (c .new-tree .ensures)
-
-slice-aggregate-through-neighbours : tie.Need-slice-aggregate-through-neighbours
-slice-aggregate-through-neighbours c = search needs
-
-through-neighbours-requires : tie.Need-through-neighbours-requires
-through-neighbours-requires c κs =
-    (held-high (c .before .before .before .before .pre .0), held-flat (c .before .before .before .before .pre .0))
-
-is-active-requires : tie.Need-is-active-requires
-is-active-requires c κs = held-high (c .before .before .before .before .before .pre .0)
-
-both-requires : tie.Need-both-requires
-both-requires c κs = search needs
+    (active-is (c .before .before)) (c .before .both .ensures) (c .new-tree .ensures)
 
 new-tree-requires : tie.Need-new-tree-requires
 new-tree-requires c κs = (c .before .before .before .before .before .before .before .pre .0, through-is (c .before .before))
@@ -46,7 +41,7 @@ is-changed-requires c κs = held-high (c .before .before .before .before .before
 feasible-after-requires : tie.Need-feasible-after-requires
 unfolding changed
 feasible-after-requires c κs =
-    (held-high (c .before .before .before .before .before .before .before .before .before .before .pre .0), c .before .before .before .before .is-active .ensures, c .is-changed .ensures)
+    (held-high (c .before .before .before .before .before .before .before .before .before .before .pre .0), active-is (c .before .before .before .before), c .is-changed .ensures)
 
 new-awaited-requires : tie.Need-new-awaited-requires
 new-awaited-requires c κs = held-high (c .before .before .before .before .before .before .before .before .before .before .before .before .pre .0)
@@ -63,12 +58,6 @@ send-requires c κs =
       fits = start .pre .2;
     }
 
-sets-over-requires : tie.Need-sets-over-requires
-sets-over-requires c κs = held-high (c .before .before .before .before .before .before .before .before .before .before .before .before .before .before .before .before .before .pre .0)
-
-same-length : tie.Need-same-length
-same-length c = search needs
-
 returns : tie.Need-returns
 unfolding changed
 returns c =
@@ -84,7 +73,10 @@ returns c =
           (c .before .before .before .before .before .before .before .before .is-changed .ensures)
           (c .before .before .before .before .before .new-awaited .ensures)
           (c .before .before .before .before .before .before .before .feasible-after .ensures)
-          (c .sets-over .ensures)
+          (sets-of unit fit
+          (c .before .before .before .before .before .before .before .before .before .before .before .before .before .through-neighbours .result)
+          (c .before .before .before .before .before .before .before .feasible-after .result)
+          (c .sets-over .ensures))
           (c .before .before .before .send .ensures .0),
       buffer-composed unit was new owed fit (tree .new-tree .result) (tree-is tree)
           (now (start .args .out)) (c .before .before .before .send .ensures .1),
@@ -94,15 +86,11 @@ pub react-spec : {M : Type 1} → statement M
 react-spec =
     tie.close
     (tie.spec
-    slice-aggregate-through-neighbours
-    through-neighbours-requires
-    is-active-requires
-    both-requires
+    (λ c. search needs) (λ c. search needs) (λ c. search needs) (λ c. search needs)
     new-tree-requires
     is-changed-requires
     feasible-after-requires
     new-awaited-requires
     send-requires
-    sets-over-requires
-    same-length
+    (λ c. search needs) (λ c. search needs)
     returns)

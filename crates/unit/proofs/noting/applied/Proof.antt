@@ -27,29 +27,14 @@ loop-holds : tie.Need-loop-holds Inv-loop μ-loop
 unfolding appliedTo
 loop-holds c = search needs
 
-mul-change : tie.Need-mul-change Inv-loop μ-loop
-mul-change c = search needs
-
-shared-slice-read-change : tie.Need-shared-slice-read-change Inv-loop μ-loop
-shared-slice-read-change c = search needs
-
 cast-j : tie.Need-cast-j Inv-loop μ-loop
 cast-j c = omega (arith, c .shared-slice-known2 .given (c .before .before .loop .i))
-
-entry-of-requires : tie.Need-entry-of-requires Inv-loop μ-loop
-entry-of-requires c κs = search needs
 
 mul-row : tie.Need-mul-row Inv-loop μ-loop
 mul-row c = omega (arith, has-place (c .before))
 
 array-write-row : tie.Need-array-write-row Inv-loop μ-loop
 array-write-row c = omega (arith, has-place (c .before))
-
-add-i : tie.Need-add-i Inv-loop μ-loop
-add-i c = search needs
-
-loop-less : tie.Need-loop-less Inv-loop μ-loop
-loop-less c = search needs
 
 loop-again : tie.Need-loop-again Inv-loop μ-loop
 loop-again c =
@@ -73,13 +58,11 @@ applied-spec =
     Inv-loop
     μ-loop
     loop-holds
-    mul-change
-    shared-slice-read-change
+    (λ c. search needs) (λ c. search needs)
     cast-j
-    entry-of-requires
+    (λ c. search needs)
     mul-row
     array-write-row
-    add-i
-    loop-less
+    (λ c. search needs) (λ c. search needs)
     loop-again
     returns)

@@ -33,15 +33,6 @@ has-place : (c : tie.After-shared-slice-known2 Inv-loop μ-loop)
     → unitOf (at (c .before .before .before .before .args .changes .now) (c .before .before .loop .i)) < unitLimit
 has-place c = c .before .before .before .before .pre (c .before .before .loop .i) (c .before .loop-test .taken)
 
-loop-holds : tie.Need-loop-holds Inv-loop μ-loop
-loop-holds c = search needs
-
-mul-change : tie.Need-mul-change Inv-loop μ-loop
-mul-change c = search needs
-
-shared-slice-read-change : tie.Need-shared-slice-read-change Inv-loop μ-loop
-shared-slice-read-change c = search needs
-
 cast-j : tie.Need-cast-j Inv-loop μ-loop
 cast-j c = omega (arith, c .shared-slice-known2 .given (c .before .before .loop .i))
 
@@ -50,9 +41,6 @@ mul-if1 c = omega (arith, has-place c)
 
 array-read-if1 : tie.Need-array-read-if1 Inv-loop μ-loop
 array-read-if1 c = omega (arith, has-place c)
-
-entry-of-requires : tie.Need-entry-of-requires Inv-loop μ-loop
-entry-of-requires c κs = search needs
 
 returns : tie.Need-returns Inv-loop μ-loop
 unfolding changesNothing
@@ -63,12 +51,6 @@ returns c =
     (some-of (length (args .changes .now)) (isKept (args .t1) (args .changes .now)) (here .i)
     (c .before .before .before .loop-test .taken)
     (eq-eqb _ _ (c .if1 .taken ∙ c .before .entry-of .ensures)))
-
-add-i : tie.Need-add-i Inv-loop μ-loop
-add-i c = search needs
-
-loop-less : tie.Need-loop-less Inv-loop μ-loop
-loop-less c = search needs
 
 loop-again : tie.Need-loop-again Inv-loop μ-loop
 loop-again c =
@@ -94,15 +76,12 @@ changes-nothing-spec =
     (tie.spec
     Inv-loop
     μ-loop
-    loop-holds
-    mul-change
-    shared-slice-read-change
+    (λ c. search needs) (λ c. search needs) (λ c. search needs)
     cast-j
     mul-if1
     array-read-if1
-    entry-of-requires
+    (λ c. search needs)
     returns
-    add-i
-    loop-less
+    (λ c. search needs) (λ c. search needs)
     loop-again
     returns-2)

@@ -4,29 +4,11 @@ use borrow.Author.Needs.{needs}
 use lib.ListN.{set}
 use Rattle.ground.specs.Rows.{zeros}
 use Rattle.rules.specs.Event.{noted}
-use Rattle.unit.specs.Holding.{unitOf}
-use Rattle.unit.specs.declared.held.Held.{Held}
+use Rattle.state.specs.Holding.{unitOf}
+use Rattle.state.specs.declared.held.Held.{Held}
 use Rattle.unit.proofs.Noted.{row-stored, links-held, copy-emptied}
 use Rattle.unit.proofs.noting.link_down.Statement.{statement}
 use Rattle.unit.proofs.noting.link_down.Tie as tie
-
-mul-costs : tie.Need-mul-costs
-mul-costs c = search needs
-
-array-write-costs : tie.Need-array-write-costs
-array-write-costs c = search needs
-
-mul-awaited : tie.Need-mul-awaited
-mul-awaited c = search needs
-
-array-write-awaited : tie.Need-array-write-awaited
-array-write-awaited c = search needs
-
-with-copy-requires : tie.Need-with-copy-requires
-with-copy-requires c κs = search needs
-
-with-links-requires : tie.Need-with-links-requires
-with-links-requires c κs = search needs
 
 returns : tie.Need-returns
 unfolding noted
@@ -46,10 +28,6 @@ pub link-down-spec : {M : Type 1} → statement M
 link-down-spec =
     tie.close
     (tie.spec
-    mul-costs
-    array-write-costs
-    mul-awaited
-    array-write-awaited
-    with-copy-requires
-    with-links-requires
+    (λ c. search needs) (λ c. search needs) (λ c. search needs) (λ c. search needs) (λ c. search needs)
+    (λ c. search needs)
     returns)

@@ -4,20 +4,11 @@ use borrow.Author.Needs.{needs}
 use lib.ListN.{set}
 use Rattle.ground.specs.Rows.{zeros}
 use Rattle.rules.specs.Event.{noted}
-use Rattle.unit.specs.Holding.{unitOf}
-use Rattle.unit.specs.declared.held.Held.{Held}
+use Rattle.state.specs.Holding.{unitOf}
+use Rattle.state.specs.declared.held.Held.{Held}
 use Rattle.unit.proofs.Noted.{row-stored, links-held}
 use Rattle.unit.proofs.noting.new_cost.Statement.{statement}
 use Rattle.unit.proofs.noting.new_cost.Tie as tie
-
-mul-costs : tie.Need-mul-costs
-mul-costs c = search needs
-
-array-write-costs : tie.Need-array-write-costs
-array-write-costs c = search needs
-
-with-links-requires : tie.Need-with-links-requires
-with-links-requires c κs = search needs
 
 returns : tie.Need-returns
 unfolding noted
@@ -33,4 +24,4 @@ returns c =
     (ap (λ (g : Held). g .copies) (p .zeros))
 
 pub new-cost-spec : {M : Type 1} → statement M
-new-cost-spec = tie.close (tie.spec mul-costs array-write-costs with-links-requires returns)
+new-cost-spec = tie.close (tie.spec (λ c. search needs) (λ c. search needs) (λ c. search needs) returns)

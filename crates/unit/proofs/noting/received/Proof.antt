@@ -1,5 +1,5 @@
 -- `unit::noting::received` meets its contract. The wait goes by the acknowledgment's test, the sender's copy by the update's: `applied-filled` and `copy-stored`.
-use Prim.Native.Nat.{_*_, ℕ}
+use Prim.Native.Nat.{ℕ}
 use native.Mathlib.Omega.{arith}
 use mathlib.Core.List.{List, map}
 use mathlib.Core.Logic.{⊎-elim}
@@ -7,7 +7,6 @@ use mathlib.Core.Path.{_≡_, sym, ap, _∙_}
 use borrow.Author.Needs.{needs}
 use borrow.Author.Tests.{eq-eqb, ne-eqb, le-leb, lt-leb}
 use lib.ListN.{length, set}
-use lib.Seq.{paste}
 use Rattle.ground.specs.Choice.{if_then_else_}
 use Rattle.ground.specs.Limits.{unitLimit}
 use Rattle.ground.specs.Rows.{filled, joined}
@@ -18,9 +17,9 @@ use Rattle.rules.specs.Tables.{laidRow}
 use Rattle.message.specs.Fields.{fieldsOf}
 use Rattle.ground.proofs.Tests.{if-true, if-false}
 use Rattle.rules.proofs.Applied.{applied-filled, length-applied}
-use Rattle.unit.specs.Flat.{flatLength}
-use Rattle.unit.specs.Holding.{unitOf}
-use Rattle.unit.specs.declared.held.Held.{Held}
+use Rattle.recomputing.specs.Flat.{flatLength, withRow}
+use Rattle.state.specs.Holding.{unitOf}
+use Rattle.state.specs.declared.held.Held.{Held}
 use Rattle.unit.proofs.Noted.{padded-shaped, row-stored, links-held, copy-stored}
 use Rattle.unit.proofs.noting.received.Statement.{statement}
 use Rattle.unit.proofs.noting.received.Tie as tie
@@ -74,19 +73,10 @@ copy-changed c =
     ∙ ap (λ (row : List ℕ). applied row changes) (c .before .before .copy-of .ensures)
     ∙ applied-filled unitLimit copy changes (λ i l. rw long (start .pre .2 i l)) in
     c .with-copy .ensures
-    ∙ ap (λ (row : List ℕ). paste (h .copies) (k * unitLimit) row unitLimit) laid
+    ∙ ap (withRow (h .copies) k) laid
     ∙ copy-stored h p k (start .pre .1) (applied copy changes) (length-applied copy changes ∙ long)
     ∙ ap (λ (copies : List (List ℕ)). filled flatLength (joined (map laidRow copies)))
     (sym (if-true _ _ _ (le-leb _ _ (c .before .before .before .if2 .left))))
-
-mul-awaited : tie.Need-mul-awaited
-mul-awaited c = search needs
-
-array-write-awaited : tie.Need-array-write-awaited
-array-write-awaited c = search needs
-
-with-links-requires : tie.Need-with-links-requires
-with-links-requires c κs = search needs
 
 returns : tie.Need-returns
 unfolding noted
@@ -101,19 +91,10 @@ returns c =
     ∙ ap (λ (copies : List (List ℕ)). filled flatLength (joined (map laidRow copies)))
     (sym (if-false _ _ _ (lt-leb _ _ (c .before .if2 .taken)))))
 
-copy-of-requires : tie.Need-copy-of-requires
-copy-of-requires c κs = search needs
-
 applied-requires : tie.Need-applied-requires
 applied-requires c κs =
     let start = c .before .before .before .before .before .before .before in
     λ i l. omega (arith, start .pre .2 i l, start .pre .0 .count)
-
-with-copy-requires : tie.Need-with-copy-requires
-with-copy-requires c κs = search needs
-
-with-links-requires-2 : tie.Need-with-links-requires-2
-with-links-requires-2 c κs = search needs
 
 returns-2 : tie.Need-returns-2
 unfolding noted
@@ -130,12 +111,9 @@ pub received-spec : {M : Type 1} → statement M
 received-spec =
     tie.close
     (tie.spec
-    mul-awaited
-    array-write-awaited
-    with-links-requires
+    (λ c. search needs) (λ c. search needs) (λ c. search needs)
     returns
-    copy-of-requires
+    (λ c κs. search needs)
     applied-requires
-    with-copy-requires
-    with-links-requires-2
+    (λ c. search needs) (λ c. search needs)
     returns-2)

@@ -8,12 +8,6 @@ use Rattle.rules.specs.Message.{change as changeTo}
 use Rattle.unit.proofs.send.change.Statement.{statement}
 use Rattle.unit.proofs.send.change.Tie as tie
 
-cast-result : tie.Need-cast-result
-cast-result c = search needs
-
-mul-result : tie.Need-mul-result
-mul-result c = search needs
-
 add-result : tie.Need-add-result
 add-result c = ⊎-elim (λ w. omega (arith, w .1)) (λ w. omega (arith, w .1)) (c .before .if1 .came)
 
@@ -26,4 +20,4 @@ returns c =
     (c .before .if1 .came))
 
 pub change-spec : {M : Type 1} → statement M
-change-spec = tie.close (tie.spec cast-result mul-result add-result returns)
+change-spec = tie.close (tie.spec (λ c. search needs) (λ c. search needs) add-result returns)

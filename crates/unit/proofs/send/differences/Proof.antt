@@ -27,24 +27,6 @@ loop-holds : tie.Need-loop-holds Inv-loop μ-loop
 unfolding differences
 loop-holds c = (omega arith, (refl, refl))
 
-mul-if1 : tie.Need-mul-if1 Inv-loop μ-loop
-mul-if1 c = search needs
-
-array-read-if1 : tie.Need-array-read-if1 Inv-loop μ-loop
-array-read-if1 c = search needs
-
-mul-if1-2 : tie.Need-mul-if1-2 Inv-loop μ-loop
-mul-if1-2 c = search needs
-
-array-read-if1-2 : tie.Need-array-read-if1-2 Inv-loop μ-loop
-array-read-if1-2 c = search needs
-
-mul-change : tie.Need-mul-change Inv-loop μ-loop
-mul-change c = search needs
-
-array-read-change : tie.Need-array-read-change Inv-loop μ-loop
-array-read-change c = search needs
-
 change-requires : tie.Need-change-requires Inv-loop μ-loop
 change-requires c κs = (omega arith, c .before .before .before .pre .1 (c .before .before .loop .j) (omega arith))
 
@@ -56,12 +38,6 @@ array-write-list c = omega (arith, few c)
 
 add-number : tie.Need-add-number Inv-loop μ-loop
 add-number c = omega (arith, few c)
-
-add-j : tie.Need-add-j Inv-loop μ-loop
-add-j c = search needs
-
-loop-less : tie.Need-loop-less Inv-loop μ-loop
-loop-less c = search needs
 
 loop-again : tie.Need-loop-again Inv-loop μ-loop
 loop-again c =
@@ -85,17 +61,12 @@ differences-spec =
     Inv-loop
     μ-loop
     loop-holds
-    mul-if1
-    array-read-if1
-    mul-if1-2
-    array-read-if1-2
-    mul-change
-    array-read-change
+    (λ c. search needs) (λ c. search needs) (λ c. search needs) (λ c. search needs) (λ c. search needs)
+    (λ c. search needs)
     change-requires
     mul-list
     array-write-list
     add-number
-    add-j
-    loop-less
+    (λ c. search needs) (λ c. search needs)
     loop-again
     returns)

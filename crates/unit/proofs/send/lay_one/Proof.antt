@@ -26,26 +26,11 @@ returns c =
     let args = c .before .before .before .args in
     laid-none (args .k) (args .kind) (args .me) (args .changes .now) (args .out .now) (args .used) (c .if1 .taken)
 
-cast-out : tie.Need-cast-out
-cast-out c = search needs
-
 slice-write-out : tie.Need-slice-write-out
 slice-write-out c = omega (arith, c .before .before .before .pre .fits (c .if1 .left))
 
-cast-write : tie.Need-cast-write
-cast-write c = search needs
-
-cast-write-2 : tie.Need-cast-write-2
-cast-write-2 c = search needs
-
 add-write : tie.Need-add-write
 add-write c = omega (arith, c .before .before .before .before .pre .fits (c .before .if1 .left))
-
-write-requires : tie.Need-write-requires
-write-requires c κs = search needs
-
-enum-known-bytes : tie.Need-enum-known-bytes
-enum-known-bytes c = search needs
 
 add-result : tie.Need-add-result
 add-result c =
@@ -56,9 +41,6 @@ add-result-2 : tie.Need-add-result-2
 add-result-2 c =
     let tested = c .before .before .before .before .before .before .before in
     omega (arith, tested .before .before .before .pre .fits (tested .if1 .left), bytes-of c)
-
-enum-told : tie.Need-enum-told
-enum-told c = search needs
 
 same-length : tie.Need-same-length
 same-length c = c .before .before .before .before .before .write .kept .1 .1 .1 .1 .0 ∙ simp length-set
@@ -87,16 +69,14 @@ lay-one-spec =
     tie.close
     (tie.spec
     returns
-    cast-out
+    (λ c. search needs)
     slice-write-out
-    cast-write
-    cast-write-2
+    (λ c. search needs) (λ c. search needs)
     add-write
-    write-requires
-    enum-known-bytes
+    (λ c. search needs) (λ c. search needs)
     add-result
     add-result-2
-    enum-told
+    (λ c. search needs)
     same-length
     returns-2
     same-length-2

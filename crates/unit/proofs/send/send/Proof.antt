@@ -8,8 +8,9 @@ use borrow.Author.Needs.{needs}
 use lib.Dec.{eqb}
 use lib.ListN.{length}
 use lib.Seq.{length-take-le}
+use Rattle.ground.specs.Rows.{laidAfter}
 use Rattle.ground.specs.Limits.{unitLimit}
-use Rattle.unit.specs.Sending.{kindFor, bytesTo, laidAfter}
+use Rattle.unit.specs.Sending.{kindFor, bytesTo}
 use Rattle.unit.specs.declared.send.Changes.{Changes}
 use Rattle.unit.proofs.Sending.{sentTo, listIn, sendable-as, Laid, laid-more}
 use Rattle.unit.proofs.SendingAll.{bytesFor, picked, facts, small-tree, place-for, sendable-one, sent-all}
@@ -98,15 +99,6 @@ mul-is-sent c = omega (arith, few c)
 array-read-is-sent : tie.Need-array-read-is-sent Inv-loop μ-loop
 array-read-is-sent c = omega (arith, few c)
 
-is-sent-requires : tie.Need-is-sent-requires Inv-loop μ-loop
-is-sent-requires c κs = search needs
-
-changes-for-requires : tie.Need-changes-for-requires Inv-loop μ-loop
-changes-for-requires c κs = search needs
-
-kind-for-requires : tie.Need-kind-for-requires Inv-loop μ-loop
-kind-for-requires c κs = search needs
-
 array-share-prefix-list : tie.Need-array-share-prefix-list Inv-loop μ-loop
 array-share-prefix-list c = changes-fit (c .before .before)
 
@@ -126,9 +118,6 @@ lay-one-requires c κs =
 
 add-k : tie.Need-add-k Inv-loop μ-loop
 add-k c = omega (arith, few (c .before .before .before .before .before .before .before .before .before))
-
-loop-less : tie.Need-loop-less Inv-loop μ-loop
-loop-less c = search needs
 
 loop-again : tie.Need-loop-again Inv-loop μ-loop
 loop-again c =
@@ -162,14 +151,12 @@ send-spec =
     loop-holds
     mul-is-sent
     array-read-is-sent
-    is-sent-requires
-    changes-for-requires
-    kind-for-requires
+    (λ c. search needs) (λ c. search needs) (λ c. search needs)
     array-share-prefix-list
     slice-aggregate-lay-one
     lay-one-requires
     add-k
-    loop-less
+    (λ c. search needs)
     loop-again
     same-length
     returns)

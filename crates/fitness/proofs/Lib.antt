@@ -1,0 +1,10 @@
+-- The laws by which the code of fitness meets its contracts, and what others need of a unit's table among all.
+pub mod EveryLoop
+pub mod FitOfParts
+pub mod FitTables
+pub mod PartsOfFit
+pub mod PartsRead
+pub mod PlacesFit
+pub mod ReadPlace
+pub mod TableThere
+pub mod Tiles

@@ -1,0 +1,35 @@
+-- What is found of the decimals that follow a word, and the command that a word and they are.
+use Prim.Native.Nat.{ℕ, _≤_, _<_}
+use mathlib.Core.Bool.{_&&_}
+use mathlib.Core.List.{List}
+use mathlib.Core.Path.{_≡_}
+use lib.Dec.{eqb}
+use Rattle.ground.specs.Choice.{if_then_else_}
+use Rattle.ground.specs.Rows.{at, same}
+use Rattle.lines.specs.Commands.{isArguments, argument}
+use Rattle.lines.specs.Words.{unitsName, upName, costName, downName, deliverName, showName}
+use Rattle.lines.specs.declared.Command.{Command}
+use Rattle.lines.specs.declared.Command.the-variants.{Units, Up, Cost, Down, Deliver, Show, Bad}
+use Rattle.lines.specs.declared.Found.{Found}
+
+-- The most decimals that a command has.
+abbrev pub argumentLimit : ℕ
+argumentLimit = 4
+
+-- Decimals that are found are as many as follow, if no more than a command has, and have the numbers of those.
+pub record Told (rest : List ℕ) (found : Found) : Type 0 where
+  pub counted : (k : ℕ) → k ≤ argumentLimit → isArguments k rest ≡ eqb (found .count) k
+  pub listed : (i : ℕ) → i < found .count → found .count ≤ argumentLimit → at (found .list) i ≡ argument i rest
+
+-- The first command, where a word is a name that has k decimals and as many are found, and otherwise the second.
+unfoldable pub eitherOf : (word : List ℕ) (count : ℕ) (name : List ℕ) (k : ℕ) (first second : Command) → Command
+eitherOf word count name k first second = if same word name && eqb count k then first else second
+
+-- The command of a word and the decimals found.
+unfoldable pub chosen : (word : List ℕ) (count a b c d : ℕ) → Command
+chosen word count a b c d =
+    eitherOf word count unitsName 1 (Units a)
+    (eitherOf word count upName 4 (Up a b c d)
+    (eitherOf word count costName 3 (Cost a b c)
+    (eitherOf word count downName 2 (Down a b)
+    (eitherOf word count deliverName 2 (Deliver a b) (eitherOf word count showName 0 Show Bad)))))

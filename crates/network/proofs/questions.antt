@@ -1,0 +1,2 @@
+-- The laws by which the questions meet their contracts.
+pub mod UnitAnswers

@@ -1,0 +1,5 @@
+-- Laws of texts.
+pub mod Digits
+pub mod Lengths
+pub mod Putting
+pub mod Successors

@@ -13,6 +13,7 @@ ROOT = os.path.dirname(os.path.dirname(os.path.realpath(__file__)))
 DRAW = os.path.join(ROOT, 'tools', 'draw')
 PROGRAM = os.path.join(ROOT, 'puntclover')
 SVG = '{http://www.w3.org/2000/svg}'
+UNITS = 16         # the most units of a network
 
 
 def answers(script):
@@ -151,9 +152,9 @@ class Scripts(unittest.TestCase):
         self.assertEqual(Drawn(b'units 2\nup 0 1 5 7\nshow', 0).links(), [(0, 1)])
 
     def test_fresh_network(self):
-        drawn = Drawn(b'units 16\n', 15)
+        drawn = Drawn(f'units {UNITS}\n'.encode(), UNITS - 1)
         self.assertEqual((drawn.links(), drawn.arrows()), ([], []))
-        self.assertEqual(drawn.states(), {i: False for i in range(16)})
+        self.assertEqual(drawn.states(), {i: False for i in range(UNITS)})
         self.assertEqual(drawn.distances()[0], ['distance -', 'feasible -'])
 
     def test_names_with_marks_of_xml(self):
@@ -173,18 +174,18 @@ class Scripts(unittest.TestCase):
 
 
 class Legible(unittest.TestCase):
-    """All links among 16 units, which is the most that a picture can hold."""
+    """All links among as many units as there can be, which is the most that a picture can hold."""
 
     def setUp(self):
-        self.drawn = Drawn(mesh(16), 5)
+        self.drawn = Drawn(mesh(UNITS), 5)
 
     def test_all_is_there(self):
-        states, rows = shown(mesh(16), 16)
-        self.assertEqual(len(self.drawn.links()), 120)
+        states, rows = shown(mesh(UNITS), UNITS)
+        self.assertEqual(len(self.drawn.links()), UNITS * (UNITS - 1) // 2)
         self.assertEqual(self.drawn.costs()[3, 12], '10312')
         self.assertEqual(self.drawn.costs()[12, 3], '11203')
         self.assertEqual(self.drawn.states(), states)
-        arrows = [(i, int(k)) for i in range(16) if i != 5 for k in rows[i, 5][2].split(',') if k != '-']
+        arrows = [(i, int(k)) for i in range(UNITS) if i != 5 for k in rows[i, 5][2].split(',') if k != '-']
         self.assertEqual(self.drawn.arrows(), sorted(arrows))
 
     def test_costs_stand_apart(self):

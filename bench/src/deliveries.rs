@@ -6,7 +6,7 @@
 
 use crate::site::{Site, Step};
 use networks::call::Call;
-use networks::product::TAKEN;
+use second::limits::ACCEPTED;
 use second::network_tables::{Tables, BYTES, WORDS};
 use std::hint::black_box;
 
@@ -64,7 +64,7 @@ fn copies(deliveries: &[Recorded]) -> Vec<Tables> {
 pub fn network_delivers(deliveries: &[Recorded], tables: &mut [Tables]) {
     for (delivery, tables) in deliveries.iter().zip(tables) {
         let answer = delivery.call.of_product(tables, &mut []);
-        assert_eq!(black_box(answer), TAKEN);
+        assert_eq!(black_box(answer), ACCEPTED);
     }
 }
 
@@ -74,13 +74,13 @@ pub fn network_delivers(deliveries: &[Recorded], tables: &mut [Tables]) {
 pub fn second_delivers(deliveries: &[Recorded], tables: &mut [Tables]) {
     for (delivery, tables) in deliveries.iter().zip(tables) {
         let answer = delivery.call.of_second_on_tables(tables, &mut []);
-        assert_eq!(black_box(answer), TAKEN);
+        assert_eq!(black_box(answer), ACCEPTED);
     }
 }
 
 /// The bytes that a network takes, whatever its count.
 pub fn print_bytes() {
-    let (words, queues) = (4 * WORDS, BYTES);
+    let (words, queues) = (size_of::<u32>() * WORDS, BYTES);
     println!("tables  {words:>6} bytes, {WORDS} numbers");
     println!("queues  {queues:>6} bytes");
     println!("both    {:>6} bytes", words + queues);

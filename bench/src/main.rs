@@ -5,6 +5,7 @@
 //! read the tables, test that they are fit, run the event, and lay out tables
 //! and messages again.
 //!
+//! * `bench networks`: the shapes and counts of the networks that are measured.
 //! * `bench time`: events per second, for each network.
 //! * `bench once SHAPE COUNT`: each side once over the recorded events, for a
 //!   count of instructions by the functions [`with_product`] and
@@ -21,9 +22,10 @@ mod record;
 mod site;
 mod stack;
 
-use hubs::product::{ROOM, TAKEN};
 use hubs::table;
 use record::Recorded;
+use second::limits::{ACCEPTED, FIRMWARE_ROOM, UNITS};
+use shared::tally::grouped;
 use site::SHAPES;
 use std::env;
 use std::hint::black_box;
@@ -31,7 +33,10 @@ use std::process::ExitCode;
 use std::time::{Duration, Instant};
 
 /// The counts of units that are measured.
-const COUNTS: [u32; 3] = [4, 8, 16];
+const COUNTS: [u32; 3] = [4, 8, UNITS as u32];
+
+/// The bytes of stack that a call may use.
+const STACK_LIMIT: usize = 16_384;
 
 /// How long each side is measured.
 const LONG: Duration = Duration::from_millis(700);
@@ -40,6 +45,7 @@ fn main() -> ExitCode {
     let words: Vec<String> = env::args().skip(1).collect();
     let words: Vec<&str> = words.iter().map(String::as_str).collect();
     match words.as_slice() {
+        ["networks"] => networks().for_each(|(shape, count)| println!("{shape} {count}")),
         ["time"] => time(),
         ["stack"] => stack(),
         ["bytes"] => deliveries::print_bytes(),
@@ -54,7 +60,7 @@ fn main() -> ExitCode {
         }
         _ => {
             eprintln!(
-                "usage: bench time | stack | bytes | once SHAPE COUNT | deliveries SHAPE COUNT"
+                "usage: bench networks | time | stack | bytes | once SHAPE COUNT | deliveries SHAPE COUNT"
             );
             return ExitCode::from(2);
         }
@@ -62,16 +68,22 @@ fn main() -> ExitCode {
     ExitCode::SUCCESS
 }
 
+/// The networks that are measured.
+fn networks() -> impl Iterator<Item = (&'static str, u32)> {
+    let with_counts = |shape| COUNTS.map(|count| (shape, count));
+    SHAPES.into_iter().flat_map(with_counts)
+}
+
 /// The product's border over all recorded events; answers the bytes sent.
 #[no_mangle]
 #[inline(never)]
 pub fn with_product(events: &[Recorded]) -> u64 {
-    let (mut table, mut out) = ([0; table::BYTES], [0; ROOM]);
+    let (mut table, mut out) = ([0; table::BYTES], [0; FIRMWARE_ROOM]);
     let mut sent = 0;
     for event in events {
         table.copy_from_slice(&event.table);
         let answer = event.call.of_product(&mut table, &mut out);
-        sent += u64::from(answer - TAKEN);
+        sent += u64::from(answer - ACCEPTED);
         black_box((&table, &out));
     }
     sent
@@ -81,12 +93,12 @@ pub fn with_product(events: &[Recorded]) -> u64 {
 #[no_mangle]
 #[inline(never)]
 pub fn with_second(events: &[Recorded]) -> u64 {
-    let (mut table, mut out) = ([0; table::BYTES], [0; ROOM]);
+    let (mut table, mut out) = ([0; table::BYTES], [0; FIRMWARE_ROOM]);
     let mut sent = 0;
     for event in events {
         table.copy_from_slice(&event.table);
         let answer = event.call.of_second_on_table(&mut table, &mut out);
-        sent += u64::from(answer - TAKEN);
+        sent += u64::from(answer - ACCEPTED);
         black_box((&table, &out));
     }
     sent
@@ -96,14 +108,12 @@ fn time() {
     println!(
         "network    events/s, C border    events/s, second    ratio (above 1: C border faster)"
     );
-    for shape in SHAPES {
-        for count in COUNTS {
-            let events = record::events(shape, count);
-            let product = per_second(&events, with_product);
-            let second = per_second(&events, with_second);
-            let ratio = product / second;
-            println!("{shape:5} {count:>2} {product:>21.0} {second:>19.0} {ratio:>8.2}");
-        }
+    for (shape, count) in networks() {
+        let events = record::events(shape, count);
+        let product = per_second(&events, with_product);
+        let second = per_second(&events, with_second);
+        let ratio = product / second;
+        println!("{shape:5} {count:>2} {product:>21.0} {second:>19.0} {ratio:>8.2}");
     }
 }
 
@@ -128,18 +138,21 @@ fn once(shape: &str, count: u32) {
 
 fn stack() {
     let mut most = std::collections::BTreeMap::new();
-    for shape in SHAPES {
-        for count in COUNTS {
-            for (name, used) in stack::used(record::events(shape, count)) {
-                let kept = most.entry(name).or_insert(0);
-                *kept = used.max(*kept);
-            }
+    for (shape, count) in networks() {
+        for (name, used) in stack::used(record::events(shape, count)) {
+            let kept = most.entry(name).or_insert(0);
+            *kept = used.max(*kept);
         }
     }
     for (name, used) in &most {
         println!("hub_{name:11} {used:>6} bytes");
     }
     let used = most.values().max().copied().unwrap_or(0);
-    let verdict = if used <= 16_384 { "within" } else { "ABOVE" };
-    println!("most           {used:>6} bytes, {verdict} 16,384");
+    let verdict = if used <= STACK_LIMIT {
+        "within"
+    } else {
+        "ABOVE"
+    };
+    let limit = grouped(STACK_LIMIT as u64);
+    println!("most           {used:>6} bytes, {verdict} {limit}");
 }

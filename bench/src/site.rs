@@ -1,7 +1,7 @@
 //! A network whose links form and then change, step by step, the same each time.
 
 use second::network::Network;
-use second::rng::Rng;
+use shared::rng::Rng;
 
 /// The networks: every pair linked, or one unit after the other.
 pub const SHAPES: [&str; 2] = ["mesh", "chain"];

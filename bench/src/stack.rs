@@ -7,8 +7,8 @@
 
 use crate::record::Recorded;
 use hubs::call::Call;
-use hubs::product::ROOM;
 use hubs::table;
+use second::limits::FIRMWARE_ROOM;
 use std::collections::BTreeMap;
 use std::ffi::c_void;
 use std::ptr;
@@ -82,7 +82,7 @@ pub fn used(mut calls: Vec<Recorded>) -> BTreeMap<&'static str, usize> {
 extern "C" fn measure(job: *mut c_void) -> *mut c_void {
     // SAFETY: `used` hands over a job that nobody else touches meanwhile.
     let job = unsafe { &mut *job.cast::<Job>() };
-    let (mut table, mut out) = ([0; table::BYTES], [0; ROOM]);
+    let (mut table, mut out) = ([0; table::BYTES], [0; FIRMWARE_ROOM]);
     for turn in 0..2 {
         for it in &job.calls {
             table.copy_from_slice(&it.table);

@@ -1,26 +1,8 @@
-//! Links the static archive of the crate `firmware`, which `rt staticlib`
-//! writes. It is looked for in `../../target/staticlib`, or in the folder that
-//! the environment variable `PUNTCLOVER_LIBS` names.
+//! Links the archive of the crate `firmware`.
 
-use std::env;
-use std::path::PathBuf;
-use std::process;
+#[path = "../link.rs"]
+mod link;
 
 fn main() {
-    println!("cargo:rerun-if-env-changed=PUNTCLOVER_LIBS");
-    let folder = env::var_os("PUNTCLOVER_LIBS")
-        .map_or_else(|| PathBuf::from("../../target/staticlib"), PathBuf::from);
-    let archive = folder.join("libfirmware.a");
-    println!("cargo:rerun-if-changed={}", archive.display());
-    let Ok(archive) = archive.canonicalize() else {
-        eprintln!(
-            "{} is missing: run `rt staticlib firmware` in the repository, \
-             or set PUNTCLOVER_LIBS to the folder that holds the archive",
-            archive.display()
-        );
-        process::exit(1);
-    };
-    let folder = archive.parent().unwrap_or(&folder);
-    println!("cargo:rustc-link-search=native={}", folder.display());
-    println!("cargo:rustc-link-lib=static=firmware");
+    link::archive_of("firmware");
 }

@@ -4,17 +4,18 @@
 //! tables set up by hand, of which a comparison or a test wants to know that
 //! the rules allow them.
 
+use crate::limits::{GREATEST_DISTANCE, QUEUE_ROOM};
 use crate::network::Network;
-use crate::queues::QUEUE_LIMIT;
 use crate::recompute::Neighbour;
-use crate::tree::{Distance, UnitNumber, GREATEST_DISTANCE};
+use crate::refusal::legal_count;
+use crate::tree::{Distance, UnitNumber};
 use crate::unit::Unit;
 
 impl Unit {
     /// Whether this unit's tables alone are fit: count, costs, trees and
     /// distances within the rules, and no "successors other than F gives".
     pub fn is_fit(&self) -> bool {
-        (2..=16).contains(&self.count)
+        legal_count(self.count.into()).is_ok()
             && self.number < self.count
             && self.neighbours.iter().all(|(&k, it)| self.fits(k, it))
             && self.tree.root == self.number
@@ -56,7 +57,7 @@ impl Unit {
 impl Network {
     /// Whether all units and queues are fit and agree with each other.
     pub fn is_fit(&self) -> bool {
-        (2..=16).contains(&self.units.len())
+        legal_count(self.units.len() as u32).is_ok()
             && (0..self.count()).zip(&self.units).all(|(number, unit)| {
                 unit.number == number && unit.count == self.count() && unit.is_fit()
             })
@@ -77,7 +78,7 @@ impl Network {
         self.queues.waiting().all(|(from, to, queue)| {
             from < self.count()
                 && self.is_up(from, to)
-                && queue.len() <= QUEUE_LIMIT
+                && queue.len() <= QUEUE_ROOM
                 && queue
                     .iter()
                     .all(|message| message.sender == from && message.keeps_layout(self.count()))

@@ -34,6 +34,7 @@
 //!
 //! # How the library is laid out
 //!
+//! * [`limits`]: the numbers of the rules, each named once.
 //! * [`tree`]: distances, trees and the differences between two trees.
 //! * [`recompute`]: merging the copies into a new tree, ties fixed.
 //! * [`message`]: messages, and their bytes written and read.
@@ -47,8 +48,6 @@
 //!   laid out, and read only if they are fit.
 //! * [`refusal`]: the numbers with which a request is refused.
 //! * [`script`]: the command lines and their answers, on streams.
-//! * [`generator`], [`shapes`], [`malformed`], [`rng`]: scripts made up from a
-//!   seed, for the comparison.
 //!
 //! # Two habits
 //!
@@ -66,17 +65,14 @@
 #![warn(missing_docs)]
 
 pub mod fit;
-pub mod generator;
-pub mod malformed;
+pub mod limits;
 pub mod message;
 pub mod network;
 pub mod network_tables;
 pub mod queues;
 pub mod recompute;
 pub mod refusal;
-pub mod rng;
 pub mod script;
-pub mod shapes;
 pub mod tracer;
 pub mod tree;
 pub mod unit;

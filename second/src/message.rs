@@ -4,17 +4,20 @@
 //! kind, number of entries), the changed units, then a body of three bytes for
 //! each of them.
 
+use crate::limits::{message_length, CONTENTS, HIGHEST_COST, REMOVED};
 use crate::refusal::{legal_count, Refusal, LAYOUT, TOO_SHORT};
 use crate::tree::{Differences, Link, UnitNumber};
 
 /// "Byte 0: edition 1."
 pub const EDITION: u8 = 1;
+/// The byte that holds the sender.
+pub const SENDER: usize = 1;
+/// The byte that holds the number of entries.
+pub const NUMBER: usize = 3;
 /// The value in byte 2 for an acknowledgment, a bit.
 pub const ACKNOWLEDGMENT: u32 = 1;
 /// The value in byte 2 for an update, a bit.
 pub const UPDATE: u32 = 2;
-/// The head that stands for a removed entry.
-pub const REMOVED: u32 = 255;
 
 /// A message as units see it.
 #[derive(Clone, Debug, PartialEq, Eq)]
@@ -72,16 +75,11 @@ impl Message {
     /// 9 as [`write()`] says.
     pub fn to_bytes(&self, count: u32) -> Result<Vec<u8>, Refusal> {
         let entries = self.entries();
-        let mut bytes = vec![0; length(entries.len())];
+        let mut bytes = vec![0; message_length(entries.len())];
         let sender = u32::from(self.sender);
         write(count, self.kind(), sender, &entries, &mut bytes, 0)?;
         Ok(bytes)
     }
-}
-
-/// "Length is exactly 4 plus 4 for each entry."
-fn length(entries: usize) -> usize {
-    entries.saturating_mul(4).saturating_add(4)
 }
 
 /// The part of the layout that is about fields, not about edition and length:
@@ -108,7 +106,7 @@ fn entry_keeps_layout(count: u32, sender: u32, entry: &Entry) -> bool {
     let body_is_legal = if entry.head == REMOVED {
         entry.cost == 0
     } else {
-        entry.head < count && entry.head != entry.unit && (1..=65_535).contains(&entry.cost)
+        entry.head < count && entry.head != entry.unit && (1..=HIGHEST_COST).contains(&entry.cost)
     };
     unit_is_legal && body_is_legal
 }
@@ -129,7 +127,7 @@ pub fn write(
     offset: usize,
 ) -> Result<usize, Refusal> {
     legal_count(count)?;
-    let length = length(entries.len());
+    let length = message_length(entries.len());
     let from_offset = frame.get_mut(offset..).ok_or(TOO_SHORT)?;
     let place = from_offset.get_mut(..length).ok_or(TOO_SHORT)?;
     if !fields_keep_layout(count, kind, sender, entries) {
@@ -159,10 +157,10 @@ pub fn read(count: u32, bytes: &[u8]) -> Result<Message, Refusal> {
         return Err(LAYOUT);
     };
     let number = usize::from(number);
-    if bytes.len() != length(number) {
+    if bytes.len() != message_length(number) {
         return Err(LAYOUT);
     }
-    let (units, bodies) = bytes[4..].split_at(number);
+    let (units, bodies) = bytes[CONTENTS..].split_at(number);
     let entries: Vec<Entry> = units
         .iter()
         .zip(bodies.chunks_exact(3))

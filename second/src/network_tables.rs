@@ -6,22 +6,23 @@
 //! lays nothing out to compare, so that it is a judgement of its own beside the
 //! product's.
 
+use crate::limits::{message_length, MESSAGE_ROOM, QUEUE_ROOM, UNITS};
 use crate::message::{self, Message};
 use crate::network::Network;
-use crate::queues::{Queues, QUEUE_LIMIT};
+use crate::queues::Queues;
 use crate::refusal::{legal_count, Refusal, UNFIT};
 use crate::tree::UnitNumber;
 use crate::unit::Unit;
-use crate::unit_table::{self, UNITS};
+use crate::unit_table;
 
 /// The numbers of all units' tables.
 pub const WORDS: usize = UNITS * unit_table::WORDS;
 
 /// The bytes of a message's place, those of the longest message.
-pub const PLACE: usize = 64;
+pub const PLACE: usize = MESSAGE_ROOM;
 
 /// The bytes of a queue.
-pub const QUEUE: usize = QUEUE_LIMIT * PLACE;
+pub const QUEUE: usize = QUEUE_ROOM * PLACE;
 
 /// The bytes of all queues.
 pub const BYTES: usize = UNITS * UNITS * QUEUE;
@@ -83,7 +84,7 @@ fn network(words: &[u32], queues: &[u8]) -> Option<Network> {
     if words.len() != WORDS || queues.len() != BYTES {
         return None;
     }
-    let count = legal_count(words[0]).ok()?;
+    let count = legal_count(words[unit_table::COUNT]).ok()?;
     let mut network = Network {
         units: units(count, words)?,
         queues: Queues::default(),
@@ -141,7 +142,7 @@ fn queue(count: u8, from: UnitNumber, bytes: &[u8]) -> Option<Vec<Message>> {
 /// One place's message, none if it is "against the layout or not from its
 /// sender", or not followed by zeros.
 fn queued(count: u8, from: UnitNumber, place: &[u8]) -> Option<Message> {
-    let length = 4 + 4 * usize::from(place[3]);
+    let length = message_length(place[message::NUMBER].into());
     let (bytes, rest) = place.split_at_checked(length)?;
     let message = message::read(u32::from(count), bytes).ok()?;
     let is_fit = message.sender == from && rest.iter().all(|&byte| byte == 0);

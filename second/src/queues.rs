@@ -1,12 +1,10 @@
 //! The queues: "a queue for each direction of each link: first in, first out,
 //! at most 4 messages".
 
+use crate::limits::QUEUE_ROOM;
 use crate::message::Message;
 use crate::tree::UnitNumber;
 use std::collections::{BTreeMap, VecDeque};
-
-/// The messages that a queue may hold.
-pub const QUEUE_LIMIT: usize = 4;
 
 /// All queues of a network, by sender and receiver. Empty queues are not kept,
 /// so that equal contents are equal values.
@@ -57,9 +55,9 @@ impl Queues {
         self.held.is_empty()
     }
 
-    /// Whether some queue has more than 4 messages.
+    /// Whether some queue has more messages than it has room for.
     pub fn some_passes_limit(&self) -> bool {
-        self.held.values().any(|queue| queue.len() > QUEUE_LIMIT)
+        self.held.values().any(|queue| queue.len() > QUEUE_ROOM)
     }
 }
 

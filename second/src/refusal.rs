@@ -3,6 +3,7 @@
 //! "The lowest number that applies is given. A refusal returns its number alone
 //! and changes nothing."
 
+use crate::limits::{FEWEST_UNITS, HIGHEST_COST, UNITS};
 use crate::tree::UnitNumber;
 
 /// The number of a refusal.
@@ -39,7 +40,7 @@ pub const QUEUE_FULL: Refusal = 13;
 /// "Units: 2 to 16, numbered from 0." Any other count is refused with 1.
 pub fn legal_count(count: u32) -> Result<u8, Refusal> {
     match u8::try_from(count) {
-        Ok(count @ 2..=16) => Ok(count),
+        Ok(count) if (FEWEST_UNITS..=UNITS).contains(&count.into()) => Ok(count),
         _ => Err(COUNT),
     }
 }
@@ -64,7 +65,7 @@ pub fn legal_ends(count: u8, a: u32, b: u32) -> Result<(UnitNumber, UnitNumber),
 /// "Link cost: 1 to 65,535." Any other cost is refused with 4.
 pub fn legal_cost(cost: u32) -> Result<u16, Refusal> {
     match u16::try_from(cost) {
-        Ok(cost) if cost > 0 => Ok(cost),
+        Ok(legal) if (1..=HIGHEST_COST).contains(&cost) => Ok(legal),
         _ => Err(COST),
     }
 }

@@ -9,10 +9,18 @@ use crate::tree::UnitNumber;
 use crate::unit::Unit;
 use std::io::{self, BufRead, ErrorKind, Write};
 
-/// The bytes kept of a line. The longest command, `up` with four decimals of 9
-/// digits, has 42, so what has filled this room is a bad line, and so is its
-/// beginning that was kept.
-const LINE_ROOM: usize = 64;
+/// "Decimals of at most 9 digits."
+pub const DIGITS: usize = 9;
+
+/// The greatest number of so many digits.
+pub const GREATEST_NUMBER: u32 = 10_u32.pow(DIGITS as u32) - 1;
+
+/// The bytes of the longest command, `up` with four decimals after spaces.
+pub const LONGEST_COMMAND: usize = "up".len() + 4 * (1 + DIGITS);
+
+/// The bytes kept of a line, more than the longest command has: what has filled
+/// this room is a bad line, and so is its beginning that was kept.
+pub const LINE_ROOM: usize = 64;
 
 /// A line that is a command.
 #[derive(Clone, Copy, Debug, PartialEq, Eq)]
@@ -54,7 +62,7 @@ pub fn parse(line: &[u8]) -> Option<Command> {
 fn decimal(word: &[u8]) -> Option<u32> {
     let has_leading_zero = word.len() > 1 && word[0] == b'0';
     let all_digits = word.iter().all(u8::is_ascii_digit);
-    if word.is_empty() || word.len() > 9 || has_leading_zero || !all_digits {
+    if word.is_empty() || word.len() > DIGITS || has_leading_zero || !all_digits {
         return None;
     }
     let append = |number, &digit: &u8| number * 10 + u32::from(digit - b'0');
@@ -141,7 +149,7 @@ fn show_destination(unit: &Unit, j: UnitNumber, output: &mut impl Write) -> io::
 }
 
 /// Answers a whole script from one stream onto another. Of a line no more than
-/// 64 bytes are held, however long it is.
+/// [`LINE_ROOM`] bytes are held, however long it is.
 pub fn run(input: &mut impl BufRead, output: &mut impl Write) -> io::Result<()> {
     let mut runner = Runner::default();
     let mut line = Vec::with_capacity(LINE_ROOM);
@@ -190,7 +198,7 @@ mod tests {
 
     #[test]
     fn good_lines_parse() {
-        assert_eq!(parse(b"units 16"), Some(Command::Units(16)));
+        assert_eq!(parse(b"units 12"), Some(Command::Units(12)));
         assert_eq!(parse(b"up 0 1 5 7"), Some(Command::Up(0, 1, 5, 7)));
         assert_eq!(
             parse(b"up 999999999 999999999 999999999 999999999"),
@@ -263,7 +271,7 @@ mod tests {
 
     #[test]
     fn before_units_and_after_a_refused_one() {
-        let before = b"show\nup 0 0 0 0\nup 0\nunits 17\ndeliver 0 1\ncost 0 1 1\ndown 0 1\n";
+        let before = b"show\nup 0 0 0 0\nup 0\nunits 1\ndeliver 0 1\ncost 0 1 1\ndown 0 1\n";
         assert_eq!(
             answers(before, 16),
             "refused 2\nrefused 2\nbad line\nrefused 1\nrefused 2\nrefused 2\nrefused 2\n"

@@ -18,9 +18,6 @@ pub enum Distance {
     Unreachable,
 }
 
-/// The greatest finite distance: 15 links of cost 65,535.
-pub const GREATEST_DISTANCE: u32 = 983_025;
-
 impl Distance {
     /// The distance of a root.
     pub const ZERO: Distance = Distance::Finite(0);
@@ -156,6 +153,7 @@ impl Tree {
 #[cfg(test)]
 mod tests {
     use super::*;
+    use crate::limits::{GREATEST_DISTANCE, HIGHEST_COST, UNITS};
 
     fn tree(root: UnitNumber, entries: &[(UnitNumber, UnitNumber, u16)]) -> Tree {
         let link = |&(unit, head, cost)| (unit, Link { head, cost });
@@ -184,10 +182,12 @@ mod tests {
 
     #[test]
     fn the_longest_chain_has_the_greatest_distance() {
-        let links: Vec<_> = (1..16).map(|unit| (unit, unit - 1, 65_535)).collect();
+        let last = UNITS as UnitNumber - 1;
+        let dearest = HIGHEST_COST as u16;
+        let links: Vec<_> = (1..=last).map(|unit| (unit, unit - 1, dearest)).collect();
         let chain = tree(0, &links);
-        assert!(chain.is_tree(16));
-        assert_eq!(chain.distance(15), Distance::Finite(GREATEST_DISTANCE));
+        assert!(chain.is_tree(last + 1));
+        assert_eq!(chain.distance(last), Distance::Finite(GREATEST_DISTANCE));
     }
 
     #[test]

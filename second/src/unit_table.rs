@@ -4,31 +4,41 @@
 //! refusal 2, and takes nothing that it can't explain. So a state has one table
 //! only: what is read is what was laid out.
 
+use crate::limits::{ENTRY_BASE, GREATEST_DISTANCE, UNITS};
 use crate::recompute::{Neighbour, Neighbours};
 use crate::refusal::{legal_cost, legal_count, legal_unit, Refusal, UNFIT};
-use crate::tree::{Distance, Link, Tree, UnitNumber, GREATEST_DISTANCE};
+use crate::tree::{Distance, Link, Tree, UnitNumber};
 use crate::unit::Unit;
 use std::collections::{BTreeMap, BTreeSet};
 
+/// Where the count of units stands.
+pub const COUNT: usize = 0;
+/// Where the unit's own number stands.
+pub const NUMBER: usize = 1;
+/// The first of the costs. From here on there are rows of [`UNITS`] numbers.
+pub const COSTS: usize = 2;
+/// The first of the waits.
+pub const AWAITED: usize = COSTS + UNITS;
+/// The first entry of the unit's own tree.
+pub const TREE: usize = AWAITED + UNITS;
+/// The first of the feasible distances.
+pub const FEASIBLE: usize = TREE + UNITS;
+/// The first of the successor sets.
+pub const SUCCESSORS: usize = FEASIBLE + UNITS;
+/// The first entry of the copies, a row for each unit.
+pub const COPIES: usize = SUCCESSORS + UNITS;
 /// The numbers of a table.
-pub const WORDS: usize = 338;
+pub const WORDS: usize = COPIES + UNITS * UNITS;
+/// The rows of a table.
+pub const ROWS: usize = (WORDS - COSTS) / UNITS;
 
-/// The most units of a network, hence the numbers of a row.
-pub const UNITS: usize = 16;
+/// The number that stands for an unreachable distance.
+pub const UNREACHABLE: u32 = u32::MAX;
 
-const COSTS: usize = 2;
-const AWAITED: usize = 18;
-const TREE: usize = 34;
-const FEASIBLE: usize = 50;
-const SUCCESSORS: usize = 66;
-const COPIES: usize = 82;
-const UNREACHABLE: u32 = u32::MAX;
-
-/// Lays the table of a unit whose numbers are below 16 into a place of
-/// [`WORDS`] zeros.
+/// Lays the table of a unit of a legal network into a place of [`WORDS`] zeros.
 pub fn lay(unit: &Unit, words: &mut [u32]) {
-    words[0] = u32::from(unit.count);
-    words[1] = u32::from(unit.number);
+    words[COUNT] = u32::from(unit.count);
+    words[NUMBER] = u32::from(unit.number);
     for (&k, neighbour) in &unit.neighbours {
         let k = usize::from(k);
         words[COSTS + k] = u32::from(neighbour.cost);
@@ -44,18 +54,22 @@ pub fn lay(unit: &Unit, words: &mut [u32]) {
     }
 }
 
-/// The table of a unit whose numbers are below 16.
+/// The table of a unit of a legal network.
 pub fn laid_out(unit: &Unit) -> [u32; WORDS] {
     let mut words = [0; WORDS];
     lay(unit, &mut words);
     words
 }
 
-/// The entries of a tree: head times 65,536 and cost.
 fn lay_tree(words: &mut [u32], tree: &Tree) {
     for (&j, link) in &tree.entries {
-        words[usize::from(j)] = u32::from(link.head) << 16 | u32::from(link.cost);
+        words[usize::from(j)] = entry_number(link.head.into(), link.cost.into());
     }
+}
+
+/// A tree's entry as a number: the head times [`ENTRY_BASE`], and the cost.
+pub const fn entry_number(head: u32, cost: u32) -> u32 {
+    head * ENTRY_BASE + cost
 }
 
 /// A distance as a number.
@@ -80,8 +94,8 @@ fn unit(words: &[u32]) -> Option<Unit> {
     if words.len() != WORDS {
         return None;
     }
-    let count = legal_count(words[0]).ok()?;
-    let number = legal_unit(count, words[1]).ok()?;
+    let count = legal_count(words[COUNT]).ok()?;
+    let number = legal_unit(count, words[NUMBER]).ok()?;
     let mut unit = Unit {
         number,
         count,
@@ -130,8 +144,8 @@ fn tree(count: u8, root: UnitNumber, row: &[u32]) -> Option<Tree> {
     let mut tree = Tree::empty(root);
     for (j, &word) in (0..).zip(row) {
         if word != 0 {
-            let head = UnitNumber::try_from(word >> 16).ok()?;
-            let cost = (word & 65_535) as u16;
+            let head = UnitNumber::try_from(word / ENTRY_BASE).ok()?;
+            let cost = (word % ENTRY_BASE) as u16;
             tree.entries.insert(j, Link { head, cost });
         }
     }
@@ -167,8 +181,8 @@ fn successors_are_held(unit: &Unit, row: &[u32]) -> bool {
 /// What stands at an index of a table, for a report.
 pub fn place_name(word: usize) -> String {
     let what = match word {
-        0 => String::from("count"),
-        1 => String::from("own number"),
+        COUNT => String::from("count"),
+        NUMBER => String::from("own number"),
         _ if word < AWAITED => format!("cost of the link to {}", word - COSTS),
         _ if word < TREE => format!("wait on {}", word - AWAITED),
         _ if word < FEASIBLE => format!("own tree, unit {}", word - TREE),
@@ -185,13 +199,14 @@ pub fn place_name(word: usize) -> String {
 #[cfg(test)]
 mod tests {
     use super::*;
+    use crate::limits::HIGHEST_COST;
 
     #[test]
     fn two_units_by_hand() {
         let mut unit = Unit::fresh(2, 0).unwrap();
         unit.up(1, 5).unwrap();
         let mut words = [0; WORDS];
-        words[0] = 2;
+        words[COUNT] = 2;
         words[COSTS + 1] = 5;
         words[AWAITED + 1] = 1;
         words[TREE + 1] = 5;
@@ -208,16 +223,16 @@ mod tests {
         assert_eq!(read(&fit[1..]), Err(UNFIT));
         assert_eq!(read(&[&fit[..], &[0]].concat()), Err(UNFIT));
         let places = [
-            (0, 0),
-            (0, 1),
-            (0, 2),
-            (0, 17),
-            (1, 3),
-            (COSTS, 65_536),
+            (COUNT, 0),
+            (COUNT, 1),
+            (COUNT, 2),
+            (COUNT, UNITS as u32 + 1),
+            (NUMBER, 3),
+            (COSTS, HIGHEST_COST + 1),
             (COSTS + 1, 1),
             (COSTS + 3, 1),
             (AWAITED, 1),
-            (TREE, 1 << 24 | 1),
+            (TREE, entry_number(256, 1)),
             (TREE + 1, 1),
             (TREE + 3, 1),
             (FEASIBLE, GREATEST_DISTANCE + 1),
@@ -243,17 +258,18 @@ mod tests {
         let mut unit = Unit::fresh(3, 1).unwrap();
         unit.up(2, 9).unwrap();
         let fit = laid_out(&unit);
+        let copy_of_2 = COPIES + 2 * UNITS;
         let cases = [
-            (COSTS + 2, 65_535, true),
-            (COSTS + 2, 65_536, false),
+            (COSTS + 2, HIGHEST_COST, true),
+            (COSTS + 2, HIGHEST_COST + 1, false),
             (AWAITED + 2, 0, true),
             (AWAITED + 2, 2, false),
-            (COPIES + 32, 2 << 16 | 1, false),
-            (COPIES + 33, 2 << 16 | 65_535, true),
-            (COPIES + 33, 2 << 16, false),
-            (COPIES + 33, 1, false),
-            (COPIES + 34, 1, false),
-            (COPIES + 35, 2 << 16 | 1, false),
+            (copy_of_2, entry_number(2, 1), false),
+            (copy_of_2 + 1, entry_number(2, HIGHEST_COST), true),
+            (copy_of_2 + 1, entry_number(2, 0), false),
+            (copy_of_2 + 1, 1, false),
+            (copy_of_2 + 2, 1, false),
+            (copy_of_2 + 3, entry_number(2, 1), false),
             (SUCCESSORS + 2, 0, false),
             (FEASIBLE + 2, 1, true),
             (FEASIBLE + 2, 0, false),

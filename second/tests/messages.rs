@@ -1,68 +1,8 @@
 //! The bytes of messages: written, read, refused.
 
+use second::limits::UNITS;
 use second::message::{read, write, Entry, Message};
-use second::rng::Rng;
-use second::tree::{Differences, Link, UnitNumber};
-
-/// A message that the layout allows, of any kind and any number of entries.
-fn random_message(count: u8, rng: &mut Rng) -> Message {
-    let sender = rng.between(0, u32::from(count) - 1) as UnitNumber;
-    let kind = rng.between(1, 3);
-    let share = *rng.pick(&[0, 20, 50, 100]).unwrap();
-    let mut update = Differences::new();
-    for unit in (0..count).filter(|&unit| unit != sender) {
-        if rng.chance(share) {
-            update.insert(unit, random_entry(count, unit, rng));
-        }
-    }
-    Message {
-        sender,
-        acknowledgment: kind != 2,
-        update: (kind != 1).then_some(update),
-    }
-}
-
-fn random_entry(count: u8, unit: UnitNumber, rng: &mut Rng) -> Option<Link> {
-    let step = rng.between(1, u32::from(count) - 1) as UnitNumber;
-    let any_cost = rng.between(1, 65_535) as u16;
-    let cost = *rng.pick(&[1, 65_535, 255, 256, any_cost]).unwrap();
-    let head = (unit + step) % count;
-    rng.chance(75).then_some(Link { head, cost })
-}
-
-/// Writes a message into a frame of noise; the bytes around it must stay.
-fn written(count: u8, message: &Message, rng: &mut Rng) -> Vec<u8> {
-    let entries = message.entries();
-    let offset = rng.between(0, 9) as usize;
-    let length = 4 + 4 * entries.len();
-    let room = offset + length + rng.between(0, 9) as usize;
-    let noise: Vec<u8> = (0..room).map(|_| rng.next_bits() as u8).collect();
-    let mut frame = noise.clone();
-    let sender = message.sender.into();
-    let answer = write(
-        count.into(),
-        message.kind(),
-        sender,
-        &entries,
-        &mut frame,
-        offset,
-    );
-    assert_eq!(answer, Ok(length));
-    assert_eq!(frame[..offset], noise[..offset]);
-    assert_eq!(frame[offset + length..], noise[offset + length..]);
-    frame[offset..offset + length].to_vec()
-}
-
-#[test]
-fn what_is_written_is_read() {
-    let mut rng = Rng::new(11);
-    for round in 0..20_000 {
-        let count = 2 + (round % 15) as u8;
-        let message = random_message(count, &mut rng);
-        let bytes = written(count, &message, &mut rng);
-        assert_eq!(read(count.into(), &bytes), Ok(message));
-    }
-}
+use second::tree::{Differences, Link};
 
 #[test]
 fn a_message_with_set_and_removed_entries() {
@@ -80,51 +20,16 @@ fn a_message_with_set_and_removed_entries() {
     assert_eq!(read(3, &bytes), Err(9), "unit 3 is not below 3");
 }
 
-/// One byte of a good message exchanged, put in or left out: what is still read
-/// is written as the very same bytes, so no message has two encodings.
-#[test]
-fn what_is_read_is_written_alike() {
-    let mut rng = Rng::new(12);
-    let (mut taken, mut refused) = (0, 0);
-    for round in 0..20_000 {
-        let count = 2 + (round % 15) as u8;
-        let message = random_message(count, &mut rng);
-        let mut bytes = message.to_bytes(count.into()).unwrap();
-        spoil(&mut bytes, &mut rng);
-        match read(count.into(), &bytes) {
-            Ok(message) => {
-                assert_eq!(message.to_bytes(count.into()), Ok(bytes));
-                taken += 1;
-            }
-            Err(number) => {
-                assert_eq!(number, 9);
-                refused += 1;
-            }
-        }
-    }
-    assert!(taken > 1000 && refused > 1000, "{taken}, {refused}");
-}
-
-fn spoil(bytes: &mut Vec<u8>, rng: &mut Rng) {
-    let at = rng.between(0, bytes.len() as u32 - 1) as usize;
-    let any = rng.between(0, 255) as u8;
-    let byte = *rng.pick(&[0, 1, 2, 3, 15, 16, 255, any]).unwrap();
-    match rng.between(0, 5) {
-        0 => bytes.insert(at, byte),
-        1 => drop(bytes.remove(at)),
-        _ => bytes[at] = byte,
-    }
-}
-
 /// All byte strings of up to 4 bytes over some values: just those of 4 bytes
 /// with edition 1, a sender below the count, a kind and no entries are taken.
 #[test]
 fn short_byte_strings() {
-    let alphabet = [0, 1, 2, 3, 4, 15, 16, 255];
+    let most = UNITS as u8;
+    let alphabet = [0, 1, 2, 3, 4, most - 1, most, 255];
     let mut strings = vec![Vec::new()];
     for length in 0..=4 {
         for bytes in &strings {
-            for count in [2, 3, 16] {
+            for count in [2, 3, most.into()] {
                 let &[edition, sender, kind, entries] = bytes.as_slice() else {
                     assert_eq!(read(count, bytes), Err(9));
                     continue;
@@ -234,7 +139,8 @@ fn the_writer_refuses_in_order() {
     let bad = [entry(1, 1, 0)];
     let mut frame = [77; 16];
     assert_eq!(write(1, 9, 9, &bad, &mut frame, 17), Err(1));
-    assert_eq!(write(17, 2, 0, &one, &mut frame, 0), Err(1));
+    let too_many = UNITS as u32 + 1;
+    assert_eq!(write(too_many, 2, 0, &one, &mut frame, 0), Err(1));
     assert_eq!(write(3, 9, 9, &bad, &mut frame, 9), Err(7));
     assert_eq!(write(3, 2, 0, &one, &mut frame, 9), Err(7));
     assert_eq!(write(3, 2, 0, &[], &mut frame, 13), Err(7));

@@ -1,6 +1,7 @@
 //! Networks set up by hand, fit but reached by no sequence of events: refusals
 //! that no script meets, and all endings of the tracer.
 
+use second::limits::QUEUE_ROOM;
 use second::message::Message;
 use second::network::Network;
 use second::refusal::Refusal;
@@ -84,7 +85,7 @@ fn deliveries_that_only_strange_queues_hold() {
 #[test]
 fn a_full_queue_refuses_events() {
     let mut network = chain();
-    fill(&mut network, 1, 2, 4);
+    fill(&mut network, 1, 2, QUEUE_ROOM);
     assert_eq!(refused(&network, |it| it.cost(1, 0, 9)), Some(13));
     assert_eq!(refused(&network, |it| it.down(0, 1)), Some(13));
     assert_eq!(refused(&network, |it| it.cost(1, 0, 1)), None, "no news");
@@ -96,7 +97,7 @@ fn a_full_queue_refuses_events() {
         "no news at 1"
     );
     network.queues.pop(1, 2);
-    assert_eq!(refused(&network, |it| it.cost(1, 0, 9)), None, "a fourth");
+    assert_eq!(refused(&network, |it| it.cost(1, 0, 9)), None, "the last");
 }
 
 /// Link up: one end's messages fit, the other's don't, whichever is named
@@ -109,7 +110,7 @@ fn a_full_queue_at_either_end_refuses_link_up() {
     drain(&mut network);
     for from in [0, 2] {
         let mut network = network.clone();
-        fill(&mut network, from, 1, 4);
+        fill(&mut network, from, 1, QUEUE_ROOM);
         assert_eq!(refused(&network, |it| it.up(0, 2, 1, 1)), Some(13));
         assert_eq!(refused(&network, |it| it.up(2, 0, 1, 1)), Some(13));
     }
@@ -120,7 +121,7 @@ fn a_full_queue_at_either_end_refuses_link_up() {
 #[test]
 fn a_full_queue_refuses_deliveries() {
     let mut network = chain();
-    fill(&mut network, 1, 0, 4);
+    fill(&mut network, 1, 0, QUEUE_ROOM);
     let news = Link {
         head: 0,
         cost: 60_000,
@@ -269,6 +270,6 @@ fn unfit_networks() {
         broken(|it| it.queues.push(0, 1, update(0, 0, None))),
         "layout"
     );
-    assert!(broken(|it| fill(it, 0, 1, 5)), "five");
-    assert!(!broken(|it| fill(it, 0, 1, 4)), "four");
+    assert!(broken(|it| fill(it, 0, 1, QUEUE_ROOM + 1)), "too many");
+    assert!(!broken(|it| fill(it, 0, 1, QUEUE_ROOM)), "full");
 }

@@ -1,16 +1,11 @@
 //! A network's tables: laid out by hand, read back, and refused by each rule
 //! that refusal 2 lists.
 
-use second::generator;
+use second::limits::{QUEUE_ROOM, UNITS};
 use second::network::Network;
-use second::network_tables::{byte_name, queue_at, word_name, Tables, BYTES, PLACE, WORDS};
+use second::network_tables::{byte_name, queue_at, word_name, Tables, BYTES, PLACE, QUEUE, WORDS};
 use second::refusal::UNFIT;
-use second::rng::Rng;
-use second::script::Runner;
-use std::io;
-
-/// The numbers of one unit.
-const UNIT: usize = 338;
+use second::unit_table::{COSTS, COUNT, FEASIBLE, NUMBER, WORDS as UNIT};
 
 /// P3: two units, up 0-1 at costs 5 and 7.
 fn p3() -> Network {
@@ -42,8 +37,8 @@ fn is_fit(tables: &Tables) -> bool {
     }
 }
 
-/// Every place of P3's tables, from the index rule by hand. The messages are
-/// P4's and its mirror image.
+/// Every place of P3's tables, from the figures of `docs/TABLES.md` by hand. The
+/// messages are P4's and its mirror image.
 #[test]
 fn two_units_by_hand() {
     let mut tables = Tables {
@@ -69,15 +64,17 @@ fn a_second_message() {
     let mut network = p3();
     network.deliver(0, 1).unwrap();
     let tables = Tables::of(&network);
-    assert_eq!(tables.queues[256..512], [0; 256]);
-    assert_eq!(tables.queues[4_160..4_165], [1, 1, 1, 0, 0]);
+    assert_eq!(tables.queues[queue_at(0, 1)..][..QUEUE], [0; QUEUE]);
+    let second_place = queue_at(1, 0) + PLACE;
+    assert_eq!(tables.queues[second_place..][..5], [1, 1, 1, 0, 0]);
     assert_eq!(tables.read(), Ok(network));
 }
 
 #[test]
 fn names_of_places() {
-    let name = word_name(UNIT + 51);
-    assert_eq!(name, "unit 1, number 51 (feasible distance of 1)");
+    let place = FEASIBLE + 1;
+    let name = format!("unit 1, number {place} (feasible distance of 1)");
+    assert_eq!(word_name(UNIT + place), name);
     let name = byte_name(queue_at(2, 3) + PLACE + 5);
     assert_eq!(name, "queue 2 to 3, message 1, byte 5");
 }
@@ -103,14 +100,14 @@ fn lengths() {
 fn unfit_numbers() {
     let fit = Tables::of(&chain());
     let places = [
-        (0, 2),
-        (0, 4),
-        (UNIT, 4),
-        (UNIT + 1, 2),
-        (3 * UNIT, 3),
+        (COUNT, 2),
+        (COUNT, 4),
+        (UNIT + COUNT, 4),
+        (UNIT + NUMBER, 2),
+        (3 * UNIT + COUNT, 3),
         (WORDS - 1, 1),
         // The link 0-1 up at one end only: both ends still have their copies.
-        (3, 0),
+        (COSTS + 1, 0),
     ];
     for (place, word) in places {
         let mut tables = fit.clone();
@@ -145,6 +142,7 @@ fn a_link_up_at_one_end_only() {
 fn unfit_queues() {
     let fit = Tables::of(&chain());
     const ACKNOWLEDGMENT: &[u8] = &[1, 0, 1, 0];
+    const LAST: u8 = UNITS as u8 - 1;
     assert_eq!(fit.queues[queue_at(1, 0)..][..4], [1, 1, 2, 1]);
     type Case = (&'static str, u8, u8, usize, &'static [u8], bool);
     let cases: [Case; 12] = [
@@ -154,7 +152,7 @@ fn unfit_queues() {
         ("to itself", 0, 0, 0, ACKNOWLEDGMENT, false),
         ("to no unit", 0, 3, 0, ACKNOWLEDGMENT, false),
         ("from no unit", 3, 0, 0, &[1, 3, 1, 0], false),
-        ("last byte of all", 15, 15, 255, &[1], false),
+        ("last byte of all", LAST, LAST, QUEUE - 1, &[1], false),
         ("not from its sender", 0, 1, 0, &[1, 1, 1, 0], false),
         ("against the layout", 0, 1, 0, &[1, 0, 4, 0], false),
         ("edition 0", 0, 1, 0, &[0, 0, 1, 0], false),
@@ -172,57 +170,13 @@ fn unfit_queues() {
     assert!(!is_fit(&tables), "only the last byte of a place");
 }
 
-/// Four messages fill a queue to its last place.
+/// As many messages as there is room for fill a queue to its last place.
 #[test]
 fn a_full_queue() {
     let mut tables = Tables::of(&chain());
-    for place in 0..4 {
+    for place in 0..QUEUE_ROOM {
         let at = queue_at(0, 1) + place * PLACE;
         tables.queues[at..at + 4].copy_from_slice(&[1, 0, 1, 0]);
         assert!(is_fit(&tables), "{place}");
-    }
-}
-
-/// Networks that scripts reach are laid out and read back; with any number or
-/// byte changed they are unfit, or the tables of another fit network.
-#[test]
-fn reached_networks_and_any_damage() {
-    let (mut fit, mut unfit) = (0, 0);
-    for seed in 0..60 {
-        let mut rng = Rng::new(seed);
-        let mut runner = Runner::default();
-        for line in generator::script(seed, Some(120)).split(|&byte| byte == b'\n') {
-            runner.answer(line, &mut io::sink()).unwrap();
-            let Some(network) = runner.network().filter(|_| rng.chance(20)) else {
-                continue;
-            };
-            let mut tables = Tables::of(network);
-            assert_eq!(tables.read().as_ref(), Ok(network));
-            damage(&mut rng, network.count(), &mut tables);
-            *(if is_fit(&tables) {
-                &mut fit
-            } else {
-                &mut unfit
-            }) += 1;
-        }
-    }
-    assert!(fit > 20 && unfit > 500, "{fit} fit, {unfit} unfit");
-}
-
-/// One number or byte changed, most often in a place that is used.
-fn damage(rng: &mut Rng, count: u8, tables: &mut Tables) {
-    let last = u32::from(count) - 1;
-    if rng.chance(50) {
-        let unit = rng.between(0, last) as usize;
-        let place = UNIT * unit + rng.between(0, UNIT as u32 - 1) as usize;
-        tables.words[place] = match rng.between(0, 3) {
-            0 => tables.words[place] ^ 1 << rng.between(0, 31),
-            1 => tables.words[place].wrapping_add(1),
-            _ => rng.between(0, 3) << 16 | rng.between(0, 3),
-        };
-    } else {
-        let (from, to) = (rng.between(0, last), rng.between(0, last));
-        let place = queue_at(from as u8, to as u8) + rng.between(0, 15) as usize;
-        tables.queues[place] ^= 1 << rng.between(0, 7);
     }
 }

@@ -1,5 +1,6 @@
 //! One unit used alone: what each event sends, and what it refuses.
 
+use second::limits::{GREATEST_DISTANCE, HIGHEST_COST, UNITS};
 use second::message::Message;
 use second::refusal::Refusal;
 use second::tree::{Differences, Distance, Link, UnitNumber};
@@ -54,7 +55,8 @@ fn refused(unit: &Unit, event: impl FnOnce(&mut Unit) -> Result<Outbox, Refusal>
 #[test]
 fn fresh_units() {
     assert_eq!(Unit::fresh(1, 0), Err(1));
-    assert_eq!(Unit::fresh(17, 20), Err(1));
+    let too_many = UNITS as u32 + 1;
+    assert_eq!(Unit::fresh(too_many, too_many + 3), Err(1));
     assert_eq!(Unit::fresh(4, 4), Err(3));
     let unit = Unit::fresh(4, 3).unwrap();
     assert!(unit.is_fit() && !unit.is_active());
@@ -185,7 +187,7 @@ fn refusals_of_up_cost_and_down() {
     assert_eq!(refused(&unit, |unit| unit.up(0, 0)), 3);
     assert_eq!(refused(&unit, |unit| unit.up(4, 0)), 3);
     assert_eq!(refused(&unit, |unit| unit.up(1, 0)), 4);
-    assert_eq!(refused(&unit, |unit| unit.up(3, 65_536)), 4);
+    assert_eq!(refused(&unit, |unit| unit.up(3, HIGHEST_COST + 1)), 4);
     assert_eq!(refused(&unit, |unit| unit.up(1, 1)), 5);
     assert_eq!(refused(&unit, |unit| unit.cost(0, 0)), 3);
     assert_eq!(refused(&unit, |unit| unit.cost(3, 0)), 4);
@@ -257,7 +259,7 @@ fn unfit_tables() {
         change(&mut unit);
         !unit.is_fit()
     };
-    assert!(broken(|unit| unit.count = 17));
+    assert!(broken(|unit| unit.count = UNITS as u8 + 1));
     assert!(broken(|unit| unit.number = 3));
     assert!(broken(|unit| unit.neighbours.get_mut(&1).unwrap().cost = 0));
     assert!(broken(|unit| unit
@@ -273,11 +275,11 @@ fn unfit_tables() {
     assert!(broken(
         |unit| *unit.feasible.get_mut(&0).unwrap() = Distance::Finite(1)
     ));
-    assert!(broken(
-        |unit| *unit.feasible.get_mut(&3).unwrap() = Distance::Finite(983_026)
-    ));
+    const TOO_FAR: Distance = Distance::Finite(GREATEST_DISTANCE + 1);
+    assert!(broken(|unit| *unit.feasible.get_mut(&3).unwrap() = TOO_FAR));
+    const FARTHEST: Distance = Distance::Finite(GREATEST_DISTANCE);
     assert!(!broken(
-        |unit| *unit.feasible.get_mut(&3).unwrap() = Distance::Finite(983_025)
+        |unit| *unit.feasible.get_mut(&3).unwrap() = FARTHEST
     ));
     assert!(broken(|unit| unit.feasible.retain(|&j, _| j != 3)));
     assert!(broken(|unit| unit.successors.get_mut(&1).unwrap().clear()));

@@ -4,12 +4,12 @@
 //! 2 for the table, then those of the unit below 7, then 7 for the room, then
 //! those of a message. A refusal changes nothing.
 
-use crate::product::{ROOM, TAKEN};
 use crate::table;
+use second::limits::{ACCEPTED, FIRMWARE_ROOM};
 use second::refusal::{legal_count, legal_unit, Refusal, LAYOUT, TOO_SHORT, UNFIT};
 use second::tree::{Distance, UnitNumber};
 use second::unit::{Outbox, Unit};
-use second::unit_table::set_number;
+use second::unit_table::{set_number, UNREACHABLE};
 
 /// A fresh table. Refused with 1, 2, 3.
 pub fn fresh(count: u32, me: u32, bytes: &mut [u8]) -> u32 {
@@ -24,7 +24,7 @@ pub fn fresh(count: u32, me: u32, bytes: &mut [u8]) -> u32 {
         Err(refusal) => refusal,
         Ok(unit) => {
             bytes.copy_from_slice(&table::laid_out(&unit));
-            TAKEN
+            ACCEPTED
         }
     }
 }
@@ -38,13 +38,13 @@ pub fn event_on(
     let mut after = unit.clone();
     match event(&mut after) {
         Err(refusal) if refusal < TOO_SHORT => refusal,
-        _ if out.len() < ROOM => TOO_SHORT,
+        _ if out.len() < FIRMWARE_ROOM => TOO_SHORT,
         Err(refusal) => refusal,
         Ok(outbox) => {
             let sent = frames(unit.count, &outbox);
             out[..sent.len()].copy_from_slice(&sent);
             *unit = after;
-            TAKEN + sent.len() as u32
+            ACCEPTED + sent.len() as u32
         }
     }
 }
@@ -64,7 +64,7 @@ fn frames(count: u8, outbox: &Outbox) -> Vec<u8> {
 
 /// Whether the unit is ACTIVE.
 pub fn active(unit: &Unit) -> u32 {
-    TAKEN + u32::from(unit.is_active())
+    ACCEPTED + u32::from(unit.is_active())
 }
 
 /// The distance of a destination. Refused with 3.
@@ -79,7 +79,7 @@ pub fn feasible(unit: &Unit, to: u32) -> u32 {
 
 /// The successors for a destination. Refused with 3.
 pub fn successors(unit: &Unit, to: u32) -> u32 {
-    about(unit, to, |j| TAKEN + set_number(&unit.successors[&j]))
+    about(unit, to, |j| ACCEPTED + set_number(&unit.successors[&j]))
 }
 
 fn about(unit: &Unit, to: u32, answer: impl FnOnce(UnitNumber) -> u32) -> u32 {
@@ -88,7 +88,7 @@ fn about(unit: &Unit, to: u32, answer: impl FnOnce(UnitNumber) -> u32) -> u32 {
 
 fn distance_answer(distance: Distance) -> u32 {
     match distance {
-        Distance::Finite(sum) => TAKEN + sum,
-        Distance::Unreachable => u32::MAX,
+        Distance::Finite(sum) => ACCEPTED + sum,
+        Distance::Unreachable => UNREACHABLE,
     }
 }

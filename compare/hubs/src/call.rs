@@ -1,6 +1,7 @@
 //! A call at the border with its arguments, made on either side.
 
 use crate::{border, product, table};
+use second::limits::ACCEPTED;
 use second::unit::Unit;
 use std::fmt;
 
@@ -82,7 +83,7 @@ impl Call {
             self,
             Call::Up(..) | Call::Cost(..) | Call::Down(..) | Call::Message(..)
         );
-        if is_event && answer >= product::TAKEN {
+        if is_event && answer >= ACCEPTED {
             table.copy_from_slice(&table::laid_out(&unit));
         }
         answer

@@ -5,11 +5,10 @@
 use crate::call::Call;
 use crate::event;
 use crate::run::{Outcome, Run};
-use crate::table;
-use second::rng::Rng;
-use second::tree::GREATEST_DISTANCE;
+use crate::table::{self, EACH};
 use second::unit::Unit;
 use shared::draw;
+use shared::rng::Rng;
 use shared::tally::Difference;
 
 /// Calls on made-up fit tables.
@@ -85,18 +84,21 @@ fn damaged(rng: &mut Rng, unit: &Unit, mut bytes: Vec<u8>) -> (&'static str, Vec
         }
         2 => ("length", other_length(rng, bytes)),
         3..=6 => {
-            let place = word_place(rng, unit);
-            let other = word_place(rng, unit);
+            let place = draw::word_place(rng, unit.count);
+            let other = draw::word_place(rng, unit.count);
             let word = match rng.between(0, 2) {
                 0 => word_at(&bytes, other),
                 1 => word_at(&bytes, place).wrapping_add(*rng.pick(&[1, u32::MAX]).unwrap_or(&1)),
-                _ => odd_word(rng),
+                _ => draw::odd_word(rng),
             };
             set_word(&mut bytes, place, word);
             ("word", bytes)
         }
         7 => {
-            let (a, b) = (word_place(rng, unit), word_place(rng, unit));
+            let (a, b) = (
+                draw::word_place(rng, unit.count),
+                draw::word_place(rng, unit.count),
+            );
             let (at_a, at_b) = (word_at(&bytes, a), word_at(&bytes, b));
             set_word(&mut bytes, a, at_b);
             set_word(&mut bytes, b, at_a);
@@ -116,67 +118,23 @@ fn other_length(rng: &mut Rng, mut bytes: Vec<u8>) -> Vec<u8> {
     let whole = table::BYTES as u32;
     let length = match rng.between(0, 5) {
         0 => 0,
-        1 => whole - 4,
+        1 => whole - EACH as u32,
         2 => whole - 1,
         3 => whole + 1,
-        4 => whole + 4,
+        4 => whole + EACH as u32,
         _ => rng.between(0, 2 * whole),
     };
     bytes.resize(length as usize, 0);
     bytes
 }
 
-/// The index of a number, most often one that the unit's count uses.
-fn word_place(rng: &mut Rng, unit: &Unit) -> usize {
-    let row = rng.between(0, 20);
-    let column = if rng.chance(85) {
-        rng.between(0, u32::from(unit.count) - 1)
-    } else {
-        rng.between(0, 15)
-    };
-    let place = if rng.chance(5) {
-        rng.between(0, 1)
-    } else {
-        2 + 16 * row + column
-    };
-    place as usize
-}
-
-/// A number at a bound of some rule, or any.
-fn odd_word(rng: &mut Rng) -> u32 {
-    let entry = rng.between(0, 16) << 16 | rng.between(0, 3);
-    let bounds = [
-        0,
-        1,
-        2,
-        3,
-        15,
-        16,
-        17,
-        255,
-        65_535,
-        65_536,
-        GREATEST_DISTANCE,
-        GREATEST_DISTANCE + 1,
-        u32::MAX - 1,
-        u32::MAX,
-        entry,
-        entry,
-        entry,
-        255 << 16 | 1,
-        256 << 16 | 1,
-        rng.next_bits() as u32,
-    ];
-    *rng.pick(&bounds).unwrap_or(&0)
-}
-
 fn word_at(bytes: &[u8], place: usize) -> u32 {
-    let word = &bytes[4 * place..4 * place + 4];
+    let word = &bytes[EACH * place..][..EACH];
     word.iter().fold(0, |sum, &byte| sum << 8 | u32::from(byte))
 }
 
 fn set_word(bytes: &mut [u8], place: usize, word: u32) {
-    bytes[4 * place..4 * place + 4].copy_from_slice(&word.to_be_bytes());
+    bytes[EACH * place..][..EACH].copy_from_slice(&word.to_be_bytes());
 }
 
 /// One field of the unit changed, with successors by F again, so that no rule

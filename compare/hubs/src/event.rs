@@ -1,21 +1,21 @@
 //! Events of one unit made up from a seed.
 
 use crate::call::Call;
-use crate::product::ROOM;
 use crate::run::BUFFER;
-use second::rng::Rng;
+use second::limits::FIRMWARE_ROOM;
 use second::tree::UnitNumber;
 use second::unit::Unit;
 use shared::draw::{add_idle, any_differences, cost, expected, other};
+use shared::rng::Rng;
 use shared::sample;
 
 /// How many bytes of the buffer are lent: most often enough.
 pub fn room(rng: &mut Rng) -> usize {
     match rng.between(0, 49) {
-        0 => rng.between(0, ROOM as u32 - 1) as usize,
-        1 => ROOM - 1,
-        2..=9 => rng.between(ROOM as u32, BUFFER as u32) as usize,
-        _ => ROOM,
+        0 => rng.between(0, FIRMWARE_ROOM as u32 - 1) as usize,
+        1 => FIRMWARE_ROOM - 1,
+        2..=9 => rng.between(FIRMWARE_ROOM as u32, BUFFER as u32) as usize,
+        _ => FIRMWARE_ROOM,
     }
 }
 

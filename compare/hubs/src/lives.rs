@@ -3,16 +3,25 @@
 
 use crate::call::Call;
 use crate::run::{Outcome, Run};
+use crate::table::EACH;
 use crate::{border, event, product, table};
+use second::limits::ACCEPTED;
 use second::unit::Unit;
+use shared::draw::{self, FEWEST, MOST};
 use shared::tally::Difference;
 
 const PART: &str = "life";
 
+/// After so many events all questions are asked.
+const ASKED_EVERY: u32 = 16;
+
+/// Of so many events one leaves a table that is damaged later.
+const KEPT_EVERY: u32 = 20;
+
 /// The lives of some units.
 pub fn compare(run: &mut Run, lives: u32, events: u32) -> Result<(), Difference> {
     for _ in 0..lives {
-        let count = run.rng.between(2, 16);
+        let count = draw::count(&mut run.rng);
         let me = run.rng.between(0, count - 1);
         live(run, count, me, events)?;
     }
@@ -21,8 +30,20 @@ pub fn compare(run: &mut Run, lives: u32, events: u32) -> Result<(), Difference>
 
 /// Fresh tables for legal and illegal numbers, of any length.
 pub fn compare_fresh(run: &mut Run) -> Result<(), Difference> {
-    let numbers = || (0..20).chain([255, 256, 258, 65_538, u32::MAX]);
-    let lengths = [0, 4, 1_348, 1_351, 1_352, 1_352, 1_353, 1_356];
+    // Some that are legal once cut to 8 or 16 bits.
+    let far = [255, 256, 256 + FEWEST, (1 << 16) + FEWEST, u32::MAX];
+    let numbers = || (0..MOST + 4).chain(far);
+    let whole = table::BYTES;
+    let lengths = [
+        0,
+        EACH,
+        whole - EACH,
+        whole - 1,
+        whole,
+        whole,
+        whole + 1,
+        whole + EACH,
+    ];
     for (count, me) in numbers().flat_map(|count| numbers().map(move |me| (count, me))) {
         for length in lengths {
             let before = [run.buffer(), run.buffer()].concat();
@@ -48,7 +69,7 @@ fn live(run: &mut Run, count: u32, me: u32, events: u32) -> Result<(), Differenc
     let Ok(mut unit) = Unit::fresh(count, me) else {
         return Err(Difference(format!("no fresh unit {me} of {count}\n")));
     };
-    if answer != product::TAKEN || bytes != table::laid_out(&unit) {
+    if answer != ACCEPTED || bytes != table::laid_out(&unit) {
         return Err(Difference(format!(
             "difference: fresh unit {me} of {count}\n"
         )));
@@ -56,8 +77,8 @@ fn live(run: &mut Run, count: u32, me: u32, events: u32) -> Result<(), Differenc
     for number in 0..events {
         let call = event::draw(&mut run.rng, &unit);
         bytes = step(run, &call, bytes, &mut unit)?;
-        ask(run, &bytes, &mut unit, number % 16 == 0)?;
-        if number % 20 == 10 {
+        ask(run, &bytes, &mut unit, number % ASKED_EVERY == 0)?;
+        if number % KEPT_EVERY == KEPT_EVERY / 2 {
             run.reached.push(bytes.clone());
         }
     }
@@ -95,7 +116,7 @@ fn step(
 fn ask(run: &mut Run, bytes: &[u8], unit: &mut Unit, about_all: bool) -> Result<(), Difference> {
     let count = u32::from(unit.count);
     let destinations = if about_all {
-        (0..count + 2).chain([16, 255, 256, u32::MAX]).collect()
+        (0..count + 2).chain([MOST, 255, 256, u32::MAX]).collect()
     } else {
         vec![run.rng.between(0, count)]
     };

@@ -1,15 +1,15 @@
 //! Whole networks, built from the hubs' functions alone with queues beside
 //! them, event by event against the second program's network.
 
-use crate::product::{ROOM, TAKEN};
 use crate::run::Run;
 use crate::{product, table};
+use second::limits::{message_length, ACCEPTED, FIRMWARE_ROOM, QUEUE_ROOM};
+use second::message::NUMBER;
 use second::network::Network;
-use second::queues::QUEUE_LIMIT;
 use second::refusal::{Refusal, EMPTY_QUEUE, NOT_UP, QUEUE_FULL, UNIT};
-use second::rng::Rng;
-use second::shapes::{self, SHAPES};
 use shared::draw;
+use shared::rng::Rng;
+use shared::shapes::{self, SHAPES};
 use shared::tally::Difference;
 use std::collections::{BTreeMap, VecDeque};
 use std::fmt::Write as _;
@@ -35,7 +35,7 @@ struct Hubs {
 /// Some networks, so many events for each.
 pub fn compare(run: &mut Run, networks: u32, events: u32) -> Result<(), Difference> {
     for number in 0..networks {
-        let count = run.rng.between(2, 16);
+        let count = draw::count(&mut run.rng);
         let shape = SHAPES[number as usize % SHAPES.len()];
         let pairs = shapes::pairs(shape, count as u8, &mut run.rng);
         let mut wanted = pairs
@@ -109,7 +109,7 @@ fn step(
     run.tallies.count(
         PART,
         kind,
-        wanted.map_or_else(|refusal| refusal, |()| TAKEN),
+        wanted.map_or_else(|refusal| refusal, |()| ACCEPTED),
     );
     let second = Hubs::of(network);
     if answer == wanted && *hubs == second {
@@ -135,7 +135,7 @@ impl Hubs {
         let mut tables = vec![vec![0; table::BYTES]; count as usize];
         for (me, table) in (0..).zip(&mut tables) {
             let answer = product::fresh(count, me, table);
-            if answer != TAKEN {
+            if answer != ACCEPTED {
                 return Err(Difference(format!("fresh unit {me} refused: {answer}\n")));
             }
         }
@@ -206,16 +206,15 @@ impl Hubs {
         event: impl Fn(&mut [u8], &mut [u8]) -> u32,
     ) -> Result<(), Refusal> {
         let place = self.is_unit(unit)?;
-        let mut out = [0; ROOM];
+        let mut out = [0; FIRMWARE_ROOM];
         let answer = event(&mut self.tables[place], &mut out);
-        if answer < TAKEN {
+        if answer < ACCEPTED {
             return Err(answer);
         }
-        let mut rest = &out[..(answer - TAKEN) as usize];
+        let mut rest = &out[..(answer - ACCEPTED) as usize];
         while let [to, message @ ..] = rest {
-            let length = message
-                .get(3)
-                .map_or(0, |&number| 4 + 4 * usize::from(number));
+            let number = message.get(NUMBER);
+            let length = number.map_or(0, |&number| message_length(number.into()));
             let (message, others) = message.split_at(length.clamp(0, message.len()));
             let queue = self.queues.entry((unit, u32::from(*to))).or_default();
             queue.push_back(message.to_vec());
@@ -225,7 +224,7 @@ impl Hubs {
     }
 
     fn some_queue_is_too_long(&self) -> bool {
-        self.queues.values().any(|queue| queue.len() > QUEUE_LIMIT)
+        self.queues.values().any(|queue| queue.len() > QUEUE_ROOM)
     }
 }
 

@@ -4,11 +4,6 @@
 //! the slices only, keep no pointer and never unwind, so the wrappers are safe
 //! for all arguments.
 
-pub use shared::tally::TAKEN;
-
-/// The bytes that `out` has to have.
-pub const ROOM: usize = 975;
-
 extern "C" {
     fn hub_fresh(count: u32, me: u32, table: *mut u8, table_len: usize) -> u32;
     fn hub_up(

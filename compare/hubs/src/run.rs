@@ -2,12 +2,13 @@
 
 use crate::call::Call;
 use crate::table;
-use second::rng::Rng;
+use second::limits::FIRMWARE_ROOM;
+use shared::rng::Rng;
 use shared::tally::{Difference, Tallies};
 use std::fmt::Write as _;
 
 /// The bytes of the buffer of which the start is lent as `out`.
-pub const BUFFER: usize = 1_100;
+pub const BUFFER: usize = FIRMWARE_ROOM + 125;
 
 /// What a call answered, and what all the lent bytes then held.
 #[derive(Clone, PartialEq, Eq)]
@@ -88,7 +89,7 @@ fn tell(text: &mut String, what: &str, product: &[u8], second: &[u8], is_table: 
         let (ours, theirs) = (product.len(), second.len());
         let _ = writeln!(text, "{what}: {ours} bytes, second {theirs} bytes");
     }
-    let step = if is_table { 4 } else { 1 };
+    let step = if is_table { table::EACH } else { 1 };
     let chunks = product.chunks(step).zip(second.chunks(step));
     let differing = chunks
         .enumerate()
@@ -109,7 +110,7 @@ fn tell(text: &mut String, what: &str, product: &[u8], second: &[u8], is_table: 
 /// A table by its numbers other than 0, as index and hexadecimal number.
 fn shown(table: &[u8]) -> String {
     let mut text = format!("table of {} bytes,", table.len());
-    for (place, word) in table.chunks(4).enumerate() {
+    for (place, word) in table.chunks(table::EACH).enumerate() {
         if word.iter().any(|&byte| byte != 0) {
             let _ = write!(text, " {place}:");
             for byte in word {

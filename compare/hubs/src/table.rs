@@ -6,10 +6,13 @@ use second::refusal::{Refusal, UNFIT};
 use second::unit::Unit;
 use second::unit_table::{self, WORDS};
 
-/// The bytes of a table.
-pub const BYTES: usize = 4 * WORDS;
+/// The bytes of a number.
+pub const EACH: usize = 4;
 
-/// The table of a unit whose numbers are below 16.
+/// The bytes of a table.
+pub const BYTES: usize = EACH * WORDS;
+
+/// The table of a unit of a legal network.
 pub fn laid_out(unit: &Unit) -> Vec<u8> {
     let words = unit_table::laid_out(unit);
     words.iter().flat_map(|word| word.to_be_bytes()).collect()
@@ -20,7 +23,7 @@ pub fn read(table: &[u8]) -> Result<Unit, Refusal> {
     if table.len() != BYTES {
         return Err(UNFIT);
     }
-    let words: Vec<u32> = table.chunks_exact(4).map(word).collect();
+    let words: Vec<u32> = table.chunks_exact(EACH).map(word).collect();
     unit_table::read(&words)
 }
 
@@ -32,7 +35,7 @@ fn word(bytes: &[u8]) -> u32 {
 
 /// What stands at a byte of a table, for a report.
 pub fn place_name(byte: usize) -> String {
-    unit_table::place_name(byte / 4)
+    unit_table::place_name(byte / EACH)
 }
 
 #[cfg(test)]
@@ -53,7 +56,7 @@ mod tests {
     #[test]
     fn other_lengths_are_unfit() {
         let mut bytes = laid_out(&Unit::fresh(3, 1).unwrap());
-        for length in [0, BYTES - 4, BYTES - 1, BYTES + 1, BYTES + 4] {
+        for length in [0, BYTES - EACH, BYTES - 1, BYTES + 1, BYTES + EACH] {
             bytes.resize(length, 0);
             assert_eq!(read(&bytes), Err(UNFIT), "{length}");
         }

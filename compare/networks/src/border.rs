@@ -2,13 +2,14 @@
 //! that the product's tables add to [`second::network`], and results as the
 //! product's numbers.
 
-use crate::product::{ARRIVED, CIRCLING, STRANDED, TAKEN};
+use crate::product::{ARRIVED, CIRCLING, STRANDED};
+use second::limits::ACCEPTED;
 use second::network::Network;
 use second::network_tables::{Tables, BYTES, WORDS};
 use second::refusal::{legal_count, legal_unit, Refusal, UNFIT};
 use second::tracer::Ending;
 use second::tree::Distance;
-use second::unit_table::set_number;
+use second::unit_table::{set_number, UNREACHABLE};
 
 /// A fresh network in lent slices. Refused with 1, then with 2 for their
 /// lengths, "all that is tested for the fresh network".
@@ -26,14 +27,14 @@ pub fn fresh(count: u32, words: &mut [u32], queues: &mut [u8]) -> u32 {
             let tables = Tables::of(&network);
             words.copy_from_slice(&tables.words);
             queues.copy_from_slice(&tables.queues);
-            TAKEN
+            ACCEPTED
         }
     }
 }
 
 /// An accepted call, or the refusal.
 pub fn done(result: Result<(), Refusal>) -> u32 {
-    result.map_or_else(|refusal| refusal, |()| TAKEN)
+    result.map_or_else(|refusal| refusal, |()| ACCEPTED)
 }
 
 /// Whether a unit is ACTIVE. Refused with 3.
@@ -41,7 +42,7 @@ pub fn state(network: &Network, i: u32) -> u32 {
     let unit = legal_unit(network.count(), i);
     unit.map_or_else(
         |refusal| refusal,
-        |i| TAKEN + u32::from(network.unit(i).is_active()),
+        |i| ACCEPTED + u32::from(network.unit(i).is_active()),
     )
 }
 
@@ -58,15 +59,15 @@ pub fn feasible(network: &Network, i: u32, j: u32) -> u32 {
 fn distance_answer(distance: Result<Distance, Refusal>) -> u32 {
     match distance {
         Err(refusal) => refusal,
-        Ok(Distance::Finite(sum)) => TAKEN + sum,
-        Ok(Distance::Unreachable) => u32::MAX,
+        Ok(Distance::Finite(sum)) => ACCEPTED + sum,
+        Ok(Distance::Unreachable) => UNREACHABLE,
     }
 }
 
 /// The successors for a destination. Refused with 3.
 pub fn successors(network: &Network, i: u32, j: u32) -> u32 {
     let set = network.successors(i, j);
-    set.map_or_else(|refusal| refusal, |set| TAKEN + set_number(set))
+    set.map_or_else(|refusal| refusal, |set| ACCEPTED + set_number(set))
 }
 
 /// A trace. Refused with 3, 7.

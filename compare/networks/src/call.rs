@@ -1,13 +1,14 @@
 //! A call with its arguments, made on either side.
 
 use crate::border;
-use crate::product::{self, ARRIVED, CIRCLING, STRANDED, TAKEN};
+use crate::product::{self, ARRIVED, CIRCLING, STRANDED};
+use second::limits::{ACCEPTED, UNITS};
 use second::network::Network;
 use second::network_tables::Tables;
 use std::fmt;
 
 /// The bytes of the buffer of which the start is lent as a path.
-pub const PATH: usize = 24;
+pub const PATH: usize = UNITS + 8;
 
 /// A call on a network's tables: an event, a question or a trace.
 #[derive(Clone, Debug)]
@@ -118,7 +119,7 @@ impl Call {
             Ok(network) => network,
         };
         let answer = self.of_second(&mut network, path);
-        if self.is_event() && answer >= TAKEN {
+        if self.is_event() && answer >= ACCEPTED {
             *tables = Tables::of(&network);
         }
         answer

@@ -3,11 +3,13 @@
 
 use crate::call::Call;
 use crate::life::{self, Life};
-use crate::product::{self, TAKEN};
+use crate::product;
 use crate::view::View;
 use crate::walk::{self, Figures};
+use second::limits::ACCEPTED;
 use second::network_tables::{Tables, BYTES, WORDS};
-use second::rng::Rng;
+use second::refusal::UNFIT;
+use shared::rng::Rng;
 
 /// Calls with bad numbers, in so many of 100 cases.
 const ODD: u32 = 2;
@@ -47,7 +49,7 @@ fn live(rng: &mut Rng, number: u32, events: u32, seen: &mut Seen) -> Result<(), 
         words: vec![0; WORDS],
         queues: vec![0; BYTES],
     };
-    if product::fresh(count, &mut tables.words, &mut tables.queues) != TAKEN {
+    if product::fresh(count, &mut tables.words, &mut tables.queues) != ACCEPTED {
         return Err(format!("a fresh network of {count} units is refused"));
     }
     walk::walk(&tables, &mut seen.walked)?;
@@ -56,11 +58,11 @@ fn live(rng: &mut Rng, number: u32, events: u32, seen: &mut Seen) -> Result<(), 
         let call = life.next(rng, &view);
         let answer = call.of_product(&mut tables, &mut []);
         match (answer, &call) {
-            (2, _) => return Err(format!("{count} units, {call}: its own tables are unfit")),
-            (TAKEN, Call::Deliver(..)) => seen.delivered += 1,
+            (UNFIT, _) => return Err(format!("{count} units, {call}: its own tables are unfit")),
+            (ACCEPTED, Call::Deliver(..)) => seen.delivered += 1,
             _ => {}
         }
-        if answer == TAKEN {
+        if answer == ACCEPTED {
             seen.accepted += 1;
         } else {
             seen.refused += 1;

@@ -8,10 +8,17 @@
 
 use crate::call::{Call, Trace, PATH};
 use crate::view::{Link, Pair, View};
-use second::rng::Rng;
-use second::shapes::{self, Shape, SHAPES};
-use shared::draw;
+use second::limits::HIGHEST_COST;
+use shared::draw::{self, FEWEST, MOST};
+use shared::rng::Rng;
+use shared::shapes::{self, Shape, SHAPES};
 use std::collections::VecDeque;
+
+/// The lives in which each legal count comes once in each shape.
+pub const ROUND: u32 = COUNTS * SHAPES.len() as u32;
+
+/// How many counts are legal.
+const COUNTS: u32 = MOST - FEWEST + 1;
 
 /// Where link costs come from.
 #[derive(Clone, Copy)]
@@ -49,8 +56,8 @@ pub struct Life {
 
 /// The count and the shape of a life, by its number: all come in turn.
 pub fn count_and_shape(number: u32) -> (u32, Shape) {
-    let shape = number / 15 % SHAPES.len() as u32;
-    (2 + number % 15, SHAPES[shape as usize])
+    let shape = number / COUNTS % SHAPES.len() as u32;
+    (FEWEST + number % COUNTS, SHAPES[shape as usize])
 }
 
 impl Life {
@@ -172,8 +179,11 @@ impl Life {
         match self.costs {
             Costs::One if rng.chance(90) => 1,
             Costs::One | Costs::Few => draw::legal_cost(rng).into(),
-            Costs::Any => rng.between(1, 65_535),
-            Costs::Ends => *rng.pick(&[1, 2, 65_534, 65_535]).unwrap_or(&1),
+            Costs::Any => rng.between(1, HIGHEST_COST),
+            Costs::Ends => {
+                let ends = [1, 2, HIGHEST_COST - 1, HIGHEST_COST];
+                *rng.pick(&ends).unwrap_or(&1)
+            }
         }
     }
 }
@@ -265,6 +275,6 @@ fn any_unit(rng: &mut Rng, count: u32) -> u32 {
     if rng.chance(97) {
         return rng.between(0, count - 1);
     }
-    let odd = [count, count + 1, 16, 255, 256, 65_536, u32::MAX];
+    let odd = [count, count + 1, MOST, 255, 256, 1 << 16, u32::MAX];
     *rng.pick(&odd).unwrap_or(&count)
 }

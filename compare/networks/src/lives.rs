@@ -6,8 +6,10 @@ use crate::life::{self, Life};
 use crate::run::Run;
 use crate::view::View;
 use crate::{border, product};
+use second::limits::ACCEPTED;
 use second::network::Network;
 use second::network_tables::{Tables, BYTES, WORDS};
+use shared::draw::{FEWEST, MOST};
 use shared::tally::Difference;
 
 const PART: &str = "life";
@@ -21,7 +23,9 @@ const AROUND: usize = 8;
 /// Fresh networks for legal and illegal counts, in slices of any length. What
 /// lies around the slices stays as well.
 pub fn compare_fresh(run: &mut Run) -> Result<(), Difference> {
-    let counts = (0..20).chain([255, 256, 258, 65_538, u32::MAX]);
+    // Some that are legal once cut to 8 or 16 bits.
+    let far = [255, 256, 256 + FEWEST, (1 << 16) + FEWEST, u32::MAX];
+    let counts = (0..MOST + 4).chain(far);
     let words = [0, 1, WORDS - 1, WORDS, WORDS + 1];
     let bytes = [0, 1, BYTES - 1, BYTES, BYTES + 1];
     for count in counts {
@@ -102,7 +106,7 @@ fn live(run: &mut Run, number: u32, events: u32, is_asked: bool) -> Result<(), D
     let answer = product::fresh(count, &mut tables.words, &mut tables.queues);
     run.count(PART, "fresh", answer);
     let fresh = Network::fresh(count).ok();
-    let is_alike = |it: &Network| answer == product::TAKEN && tables == Tables::of(it);
+    let is_alike = |it: &Network| answer == ACCEPTED && tables == Tables::of(it);
     let Some(mut network) = fresh.filter(is_alike) else {
         return Err(run.difference(format!("{PART}: fresh network of {count}")));
     };

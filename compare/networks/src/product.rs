@@ -4,16 +4,15 @@
 //! the slices only, keep no pointer and never unwind, so the wrappers are safe
 //! for all arguments.
 
+use second::limits::ACCEPTED;
 use second::network_tables::Tables;
 
-pub use shared::tally::TAKEN;
-
 /// What a trace that arrived answers before its hops are added.
-pub const ARRIVED: u32 = TAKEN;
+pub const ARRIVED: u32 = ACCEPTED;
 /// What a trace that stranded answers before its hops are added.
-pub const STRANDED: u32 = 200;
+pub const STRANDED: u32 = 2 * ACCEPTED;
 /// What a trace that goes in a circle answers before its hops are added.
-pub const CIRCLING: u32 = 300;
+pub const CIRCLING: u32 = 3 * ACCEPTED;
 
 /// Declares functions that take the two tables to be changed, then numbers.
 macro_rules! calls {

@@ -3,8 +3,8 @@
 use crate::call::{Call, PATH};
 use second::network::Network;
 use second::network_tables::{self, Tables};
-use second::rng::Rng;
 use second::unit_table;
+use shared::rng::Rng;
 use shared::tally::{Difference, Tallies};
 use std::fmt::{Display, LowerHex, Write as _};
 

@@ -2,6 +2,7 @@
 //! comparison that never saw a refusal says nothing of it.
 
 use crate::damage::{self, DAMAGES};
+use crate::life::ROUND;
 use crate::run::Run;
 use crate::{lives, unreached};
 use shared::tally::{Difference, Tallies};
@@ -25,7 +26,7 @@ pub struct Sizes {
 
 /// The sizes of the comparison: each count in each shape lives twice.
 pub const FULL: Sizes = Sizes {
-    lives: 210,
+    lives: 2 * ROUND,
     events: 500,
     asked_every: 7,
     damaged: 1_250,

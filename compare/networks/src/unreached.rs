@@ -6,14 +6,15 @@ use crate::call::Call;
 use crate::life;
 use crate::run::Run;
 use crate::view::View;
+use second::limits::QUEUE_ROOM;
 use second::message::Message;
 use second::network::Network;
 use second::network_tables::Tables;
-use second::queues::{Queues, QUEUE_LIMIT};
+use second::queues::Queues;
 use second::recompute::Neighbour;
-use second::rng::Rng;
 use second::tree::{Distance, UnitNumber};
-use shared::draw;
+use shared::draw::{self, MOST};
+use shared::rng::Rng;
 use shared::tally::Difference;
 use std::collections::BTreeSet;
 
@@ -74,9 +75,9 @@ fn call(rng: &mut Rng, tables: &Tables) -> Call {
 /// places.
 fn made_up(rng: &mut Rng) -> Network {
     let count = match rng.chance(20) {
-        true => 16,
-        false => rng.between(2, 16) as u8,
-    };
+        true => MOST,
+        false => draw::count(rng),
+    } as u8;
     let share = rng.between(10, 100);
     let waits = rng.between(0, 80);
     let pairs = (0..count).flat_map(|b| (0..b).map(move |a| (a, b)));
@@ -127,7 +128,7 @@ fn fill(rng: &mut Rng, network: &mut Network) {
         let (count, to) = (receiver.count, receiver.number);
         for (&from, neighbour) in &receiver.neighbours {
             let held = network.queues.queue(from, to).len();
-            let free = QUEUE_LIMIT.saturating_sub(held) as u32;
+            let free = QUEUE_ROOM.saturating_sub(held) as u32;
             let more = match rng.chance(some) {
                 false => 0,
                 true if rng.chance(full) => free,

@@ -1,7 +1,8 @@
 //! Which links are up and which queues hold messages, read from the tables
 //! themselves by the index rule of `docs/TABLES.md`.
 
-use second::network_tables::Tables;
+use second::network_tables::{queue_at, Tables};
+use second::unit_table::{COSTS, COUNT, WORDS as UNIT};
 
 /// Two units, by their numbers.
 pub type Pair = (u32, u32);
@@ -29,15 +30,12 @@ pub struct View {
 impl View {
     /// The view of fit tables.
     pub fn of(tables: &Tables) -> View {
-        let count = tables.words[0];
+        let count = tables.words[COUNT];
         let pairs = (0..count).flat_map(|a| (0..count).map(move |b| (a, b)));
-        let link = |(a, b): Pair| {
-            let (from, to) = (a as usize, b as usize);
-            Link {
-                ends: (a, b),
-                cost: tables.words[338 * from + 2 + to],
-                is_busy: tables.queues[(16 * from + to) * 256] != 0,
-            }
+        let link = |(a, b): Pair| Link {
+            ends: (a, b),
+            cost: tables.words[UNIT * a as usize + COSTS + b as usize],
+            is_busy: tables.queues[queue_at(a as u8, b as u8)] != 0,
         };
         let links = pairs.map(link).filter(|link| link.cost != 0).collect();
         View { count, links }

@@ -7,6 +7,7 @@
 //! may have more edges than the count less one.
 
 use second::network_tables::Tables;
+use second::unit_table::{COUNT, FEASIBLE, SUCCESSORS, WORDS as UNIT};
 
 /// What was walked so far.
 #[derive(Clone, Copy, Debug, Default)]
@@ -45,17 +46,17 @@ enum Mark {
 
 /// Walks all graphs of the tables; answers what is wrong with one of them.
 pub fn walk(tables: &Tables, figures: &mut Figures) -> Result<(), String> {
-    let count = tables.words[0] as usize;
+    let count = tables.words[COUNT] as usize;
     for destination in 0..count {
         let number = |first: usize| {
-            let place = move |unit: usize| 338 * unit + first + destination;
+            let place = move |unit: usize| UNIT * unit + first + destination;
             (0..count).map(|unit| tables.words[place(unit)]).collect()
         };
         let graph = Graph {
             count,
             destination,
-            feasible: number(50),
-            successors: number(66),
+            feasible: number(FEASIBLE),
+            successors: number(SUCCESSORS),
         };
         let walked = graph.walk(figures);
         walked.map_err(|what| format!("destination {destination}: {what}"))?;

@@ -12,9 +12,9 @@ use std::process::{Child, Command, ExitCode, Stdio};
 use std::thread;
 use std::time::{SystemTime, UNIX_EPOCH};
 
-use second::generator;
-use second::rng::Rng;
 use second::script;
+use shared::generator;
+use shared::rng::Rng;
 
 /// The seed that every run begins with.
 const FIXED: u64 = 1;
@@ -69,8 +69,8 @@ fn fresh_seed() -> u64 {
     since.map_or(2, |time| u64::from(time.subsec_nanos()))
 }
 
-/// All scripts of a seed. Each has a seed of its own, from which `scripts` of
-/// the second program prints it again.
+/// All scripts of a seed. Each has a seed of its own, from which the binary
+/// `script` prints it again.
 fn compare_all(program: &str, seed: u64) -> Result<Tally, String> {
     let mut rng = Rng::new(seed);
     let mut tally = Tally::default();
@@ -133,10 +133,7 @@ fn run(program: &str, input: &[u8]) -> io::Result<Vec<u8>> {
         if output.status.success() {
             Ok(output.stdout)
         } else {
-            Err(io::Error::new(
-                io::ErrorKind::Other,
-                output.status.to_string(),
-            ))
+            Err(io::Error::other(output.status.to_string()))
         }
     })
 }

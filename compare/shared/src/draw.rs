@@ -1,20 +1,38 @@
 //! Numbers, distances, trees and units made up from a seed, and messages that
 //! neighbours of such units could send.
 
+use crate::rng::Rng;
+use second::limits::{FEWEST_UNITS, GREATEST_DISTANCE, HIGHEST_COST, UNITS};
 use second::message::Message;
 use second::recompute::Neighbour;
-use second::rng::Rng;
-use second::tree::{Differences, Distance, Link, Tree, UnitNumber, GREATEST_DISTANCE};
+use second::tree::{Differences, Distance, Link, Tree, UnitNumber};
 use second::unit::Unit;
+use second::unit_table::{entry_number, COSTS, ROWS, UNREACHABLE};
+
+/// The fewest units, as a number from outside.
+pub const FEWEST: u32 = FEWEST_UNITS as u32;
+
+/// The most units, as a number from outside.
+pub const MOST: u32 = UNITS as u32;
+
+/// The highest cost, as a link has it.
+const DEAREST: u16 = HIGHEST_COST as u16;
+
+/// A legal count of units.
+pub fn count(rng: &mut Rng) -> u32 {
+    rng.between(FEWEST, MOST)
+}
 
 /// A legal cost, most often one of few, so that sums are often equal.
 pub fn legal_cost(rng: &mut Rng) -> u16 {
     match rng.between(0, 19) {
         0..=11 => rng.between(1, 3) as u16,
         12..=16 => rng.between(1, 9) as u16,
-        17 => *rng.pick(&[1, 255, 256, 257, 65_534, 65_535]).unwrap_or(&1),
-        18 => 65_535,
-        _ => rng.between(1, 65_535) as u16,
+        17 => *rng
+            .pick(&[1, 255, 256, 257, DEAREST - 1, DEAREST])
+            .unwrap_or(&1),
+        18 => DEAREST,
+        _ => rng.between(1, HIGHEST_COST) as u16,
     }
 }
 
@@ -23,7 +41,8 @@ pub fn cost(rng: &mut Rng) -> u32 {
     if rng.chance(95) {
         return u32::from(legal_cost(rng));
     }
-    let odd = [0, 65_536, 65_537, 131_072, 1 << 31, u32::MAX];
+    let above = HIGHEST_COST + 1;
+    let odd = [0, above, above + 1, 2 * above, 1 << 31, u32::MAX];
     *rng.pick(&odd).unwrap_or(&0)
 }
 
@@ -32,7 +51,8 @@ pub fn other(rng: &mut Rng, count: u8, me: u8, wanted: &[UnitNumber]) -> u32 {
     let (count, me) = (u32::from(count), u32::from(me));
     match rng.between(0, 99) {
         0..=4 => {
-            let odd = [me, count, count + 1, 16, 17, 255, 256, 65_536, u32::MAX];
+            let near = [me, count, count + 1, MOST, MOST + 1];
+            let odd = [&near[..], &[255, 256, 1 << 16, u32::MAX]].concat();
             *rng.pick(&odd).unwrap_or(&me)
         }
         5 => 256 * rng.between(1, 9) + rng.between(0, count - 1),
@@ -120,7 +140,7 @@ fn chain(rng: &mut Rng, count: u8, root: UnitNumber) -> Tree {
     let mut head = root;
     for unit in units {
         let cost = if rng.chance(70) {
-            65_535
+            DEAREST
         } else {
             legal_cost(rng)
         };
@@ -153,7 +173,7 @@ pub fn distance(rng: &mut Rng) -> Distance {
 /// A unit of any network with fit tables that most often no sequence has
 /// reached.
 pub fn fit_unit(rng: &mut Rng) -> Unit {
-    let count = rng.between(2, 16) as u8;
+    let count = count(rng) as u8;
     let number = rng.between(0, u32::from(count) - 1) as u8;
     let share = rng.between(0, 100);
     let waits = rng.between(0, 60);
@@ -211,9 +231,52 @@ pub fn loose(rng: &mut Rng, count: u8, tree: &Tree) -> Tree {
     let head = if rng.chance(85) {
         rng.between(0, u32::from(count) - 1) as u8
     } else {
-        rng.between(0, 17) as u8
+        rng.between(0, MOST + 1) as u8
     };
     let cost = rng.between(0, 9) as u16;
     tree.entries.insert(unit, Link { head, cost });
     tree
+}
+
+/// The index of a number in a unit's table, most often one that the count uses.
+pub fn word_place(rng: &mut Rng, count: u8) -> usize {
+    let row = rng.between(0, ROWS as u32 - 1) as usize;
+    let last = if rng.chance(85) {
+        u32::from(count) - 1
+    } else {
+        MOST - 1
+    };
+    let column = rng.between(0, last) as usize;
+    if rng.chance(5) {
+        return rng.between(0, COSTS as u32 - 1) as usize;
+    }
+    COSTS + UNITS * row + column
+}
+
+/// A number for a unit's table at a bound of some rule, or any.
+pub fn odd_word(rng: &mut Rng) -> u32 {
+    let entry = entry_number(rng.between(0, MOST), rng.between(0, 3));
+    let bounds = [
+        0,
+        1,
+        2,
+        3,
+        MOST - 1,
+        MOST,
+        MOST + 1,
+        255,
+        HIGHEST_COST,
+        HIGHEST_COST + 1,
+        GREATEST_DISTANCE,
+        GREATEST_DISTANCE + 1,
+        UNREACHABLE - 1,
+        UNREACHABLE,
+        entry,
+        entry,
+        entry,
+        entry_number(255, 1),
+        entry_number(256, 1),
+        rng.next_bits() as u32,
+    ];
+    *rng.pick(&bounds).unwrap_or(&0)
 }

@@ -3,8 +3,16 @@
 //! A change is one number, the four bytes that a message has for it: unit,
 //! head, cost high, cost low.
 
-use second::message::{Entry, EDITION, REMOVED};
-use second::rng::Rng;
+use crate::draw::{self, MOST};
+use crate::rng::Rng;
+use second::limits::{message_length, ENTRY_BASE, HIGHEST_COST, MESSAGE_ROOM, REMOVED};
+use second::message::{Entry, EDITION};
+
+/// The values of a byte.
+const BYTE: u32 = 256;
+
+/// What a unit counts in a change: a byte for the head and two for the cost.
+pub const CHANGE_BASE: u32 = BYTE * ENTRY_BASE;
 
 /// The fields of a message in a network of `count` units, legal or not.
 #[derive(Clone, Debug)]
@@ -21,15 +29,15 @@ pub struct Fields {
 
 /// The number for a change.
 pub fn change(unit: u32, head: u32, cost: u32) -> u32 {
-    unit << 24 | head << 16 | cost
+    unit * CHANGE_BASE + head * ENTRY_BASE + cost
 }
 
 /// The entry that a change stands for.
 pub fn entry(change: u32) -> Entry {
     Entry {
-        unit: change >> 24,
-        head: change >> 16 & 255,
-        cost: change & 65_535,
+        unit: change / CHANGE_BASE,
+        head: change / ENTRY_BASE % BYTE,
+        cost: change % ENTRY_BASE,
     }
 }
 
@@ -40,7 +48,7 @@ pub fn change_of(entry: &Entry) -> u32 {
 
 /// The fields of a legal message.
 pub fn legal(rng: &mut Rng) -> Fields {
-    let count = rng.between(2, 16);
+    let count = draw::count(rng);
     let sender = rng.between(0, count - 1);
     let kind = rng.between(1, 3);
     let share = if kind == 1 { 0 } else { rng.between(0, 100) };
@@ -66,9 +74,9 @@ fn legal_change(rng: &mut Rng, count: u32, unit: u32) -> u32 {
     let head = (unit + rng.between(1, count - 1)) % count;
     let cost = match rng.between(0, 5) {
         0 => 1,
-        1 => 65_535,
-        2 => rng.between(255, 257),
-        _ => rng.between(1, 65_535),
+        1 => HIGHEST_COST,
+        2 => rng.between(BYTE - 1, BYTE + 1),
+        _ => rng.between(1, HIGHEST_COST),
     };
     change(unit, head, cost)
 }
@@ -96,9 +104,9 @@ pub fn disturbed(rng: &mut Rng) -> Fields {
 /// One thing changed, which most often makes the fields illegal.
 fn disturb(rng: &mut Rng, fields: &mut Fields) {
     match rng.between(0, 9) {
-        0 => fields.count = rng.between(0, 20),
+        0 => fields.count = rng.between(0, MOST + 4),
         1 => fields.kind = rng.between(0, 5),
-        2 => fields.sender = rng.between(0, 20),
+        2 => fields.sender = rng.between(0, MOST + 4),
         3 => fields.kind = rng.next_bits() as u32,
         4 => fields.sender = rng.next_bits() as u32,
         5 => fields.changes.push(rng.next_bits() as u32),
@@ -120,7 +128,7 @@ fn repeat(rng: &mut Rng, changes: &mut Vec<u32>) {
 
 /// One of the changes with another unit, head or cost.
 fn disturb_change(rng: &mut Rng, fields: &mut Fields) {
-    let sender = fields.sender & 255;
+    let sender = fields.sender % BYTE;
     let Some(last) = fields.changes.len().checked_sub(1) else {
         return;
     };
@@ -128,9 +136,9 @@ fn disturb_change(rng: &mut Rng, fields: &mut Fields) {
     let Entry { unit, head, cost } = entry(fields.changes[place]);
     fields.changes[place] = match rng.between(0, 6) {
         0 => change(sender, head, cost),
-        1 => change(rng.between(0, 255), head, cost),
+        1 => change(rng.between(0, BYTE - 1), head, cost),
         2 => change(unit, unit, cost),
-        3 => change(unit, rng.between(0, 255), cost),
+        3 => change(unit, rng.between(0, BYTE - 1), cost),
         4 => change(unit, head, 0),
         5 => change(unit, REMOVED, cost),
         _ => rng.next_bits() as u32,
@@ -156,11 +164,11 @@ pub fn place(rng: &mut Rng, length: usize) -> (usize, usize) {
 
 /// Bytes of any length, most often with a legal edition and length.
 pub fn noise(rng: &mut Rng) -> Vec<u8> {
-    let number = rng.between(0, 16);
+    let number = rng.between(0, MOST);
     let length = if rng.chance(80) {
-        4 + 4 * number
+        message_length(number as usize)
     } else {
-        rng.between(0, 72)
+        rng.between(0, MESSAGE_ROOM as u32 + 8) as usize
     };
     let mut bytes: Vec<u8> = (0..length).map(|_| byte(rng)).collect();
     if let [edition, sender, kind, entries, ..] = bytes.as_mut_slice() {
@@ -169,7 +177,7 @@ pub fn noise(rng: &mut Rng) -> Vec<u8> {
             *entries = number as u8;
         }
         if rng.chance(90) {
-            *sender = rng.between(0, 16) as u8;
+            *sender = rng.between(0, MOST) as u8;
             *kind = rng.between(0, 4) as u8;
         }
     }
@@ -179,9 +187,9 @@ pub fn noise(rng: &mut Rng) -> Vec<u8> {
 /// A byte, most often a small number.
 fn byte(rng: &mut Rng) -> u8 {
     match rng.between(0, 3) {
-        0 => rng.between(0, 255) as u8,
-        1 => *rng.pick(&[0, 1, 15, 16, 254, 255]).unwrap_or(&0),
-        _ => rng.between(0, 17) as u8,
+        0 => rng.between(0, BYTE - 1) as u8,
+        1 => *rng.pick(&[0, 1, MOST - 1, MOST, 254, 255]).unwrap_or(&0) as u8,
+        _ => rng.between(0, MOST + 1) as u8,
     }
 }
 

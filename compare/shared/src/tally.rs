@@ -1,10 +1,8 @@
 //! What was compared so far, by the answers.
 
+use second::limits::ACCEPTED;
 use std::collections::BTreeMap;
 use std::fmt::Write as _;
-
-/// What an accepted call answers before its value is added.
-pub const TAKEN: u32 = 100;
 
 /// A difference, readable. It ends the run.
 #[derive(Debug)]
@@ -27,7 +25,7 @@ impl Tallies {
     /// Counts a call of a part of the comparison.
     pub fn count(&mut self, part: &'static str, kind: &'static str, answer: u32) {
         let tally = self.tallies.entry((part, kind)).or_default();
-        if answer < TAKEN {
+        if answer < ACCEPTED {
             *tally.refused.entry(answer).or_default() += 1;
         } else {
             tally.accepted += 1;
@@ -94,7 +92,7 @@ mod tests {
     #[test]
     fn calls_are_counted_by_their_answers() {
         let mut tallies = Tallies::default();
-        for answer in [100, 3, 2, 3, 4_294_967_295] {
+        for answer in [ACCEPTED, 3, 2, 3, u32::MAX] {
             tallies.count("life", "up", answer);
         }
         tallies.count("life", "down", 3);

@@ -6,12 +6,13 @@
 //! fails.
 
 use networks::invariant;
+use networks::life::ROUND;
 use shared::tally::grouped;
 use std::env;
 use std::process::ExitCode;
 
 /// Lives of networks, each count in each shape four times.
-const LIVES: u32 = 420;
+const LIVES: u32 = 4 * ROUND;
 /// The events of each life.
 const EVENTS: u32 = 500;
 

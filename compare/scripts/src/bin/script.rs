@@ -1,4 +1,4 @@
-//! `scripts SEED [LINES]`: prints the script that the seed determines, of about
+//! `script SEED [LINES]`: prints the script that the seed determines, of about
 //! so many lines.
 
 use std::env;
@@ -20,15 +20,15 @@ fn arguments() -> Option<(u64, Option<usize>)> {
 
 fn main() -> ExitCode {
     let Some((seed, lines)) = arguments() else {
-        let _ = writeln!(io::stderr(), "usage: scripts SEED [LINES]");
+        let _ = writeln!(io::stderr(), "usage: script SEED [LINES]");
         return ExitCode::from(2);
     };
-    let script = second::generator::script(seed, lines);
+    let script = shared::generator::script(seed, lines);
     let mut output = io::stdout().lock();
     match output.write_all(&script).and_then(|()| output.flush()) {
         Ok(()) => ExitCode::SUCCESS,
         Err(error) => {
-            let _ = writeln!(io::stderr(), "scripts: {error}");
+            let _ = writeln!(io::stderr(), "script: {error}");
             ExitCode::FAILURE
         }
     }

@@ -1,14 +1,10 @@
-//! The product's exported functions.
+//! The product's exported functions, as `include/message.h` declares them.
 //!
 //! A lent slice is a pointer and then a length. The functions read and write
 //! the slices only, keep no pointer and never unwind, so the wrappers are safe
 //! for all arguments.
 
-/// What an accepted call answers before its length is added.
-pub const TAKEN: u32 = 100;
-
-/// The most entries of a message.
-pub const ENTRIES: usize = 15;
+use second::limits::ENTRIES;
 
 /// The places in a table of fields before the changes: kind, sender and number
 /// of entries.
@@ -38,9 +34,9 @@ extern "C" {
     ) -> u32;
 }
 
-/// Lays a message into the frame from the offset on. Answers [`TAKEN`] plus its
+/// Lays a message into the frame from the offset on. Answers 100 plus its
 /// length, or a refusal's number.
-pub fn message_written(
+pub fn write(
     count: u32,
     kind: u32,
     sender: u32,
@@ -65,8 +61,8 @@ pub fn message_written(
 }
 
 /// Takes one message from the bytes and lays its fields at the start of the
-/// table. Answers [`TAKEN`] plus the number of entries, or a refusal's number.
-pub fn message_taken(count: u32, bytes: &[u8], fields: &mut [u32]) -> u32 {
+/// table. Answers 100 plus the number of entries, or a refusal's number.
+pub fn read(count: u32, bytes: &[u8], fields: &mut [u32]) -> u32 {
     // SAFETY: each pointer and length is that of a slice, alive and, for the
     // table, not shared during the call.
     unsafe {

@@ -2,12 +2,12 @@
 //! feasible distances fall along successors and bound the distances, and when
 //! all is quiet the distances are the true shortest ones.
 
-use second::generator;
 use second::network::Network;
-use second::rng::Rng;
 use second::script::{parse, Command, Runner};
 use second::tracer::Ending;
 use second::tree::{Distance, UnitNumber};
+use shared::generator;
+use shared::rng::Rng;
 use std::collections::BTreeSet;
 use std::io;
 

@@ -1,6 +1,9 @@
 //! Lines that are no commands, most of them nearly commands.
 
+use crate::draw::{self, MOST};
 use crate::rng::Rng;
+use second::limits::HIGHEST_COST;
+use second::script::{LINE_ROOM, LONGEST_COMMAND};
 
 /// Turns a good line into a malformed one.
 type Spoil = fn(&mut Rng, Vec<u8>) -> Vec<u8>;
@@ -34,10 +37,10 @@ pub fn line(rng: &mut Rng) -> Vec<u8> {
 
 /// A line that would be a command.
 fn good_line(rng: &mut Rng) -> Vec<u8> {
-    let (a, b) = (rng.between(0, 15), rng.between(0, 15));
-    let cost = rng.between(1, 65_535);
+    let (a, b) = (rng.between(0, MOST - 1), rng.between(0, MOST - 1));
+    let cost = rng.between(1, HIGHEST_COST);
     let line = match rng.between(0, 5) {
-        0 => format!("units {}", rng.between(2, 16)),
+        0 => format!("units {}", draw::count(rng)),
         1 => format!("up {a} {b} {cost} {cost}"),
         2 => format!("cost {a} {b} {cost}"),
         3 => format!("down {a} {b}"),
@@ -132,12 +135,13 @@ fn high_byte(rng: &mut Rng, line: Vec<u8>) -> Vec<u8> {
     with_byte(rng, line, byte)
 }
 
-/// A good beginning, then one byte again and again: around the length of the
-/// longest command, around 64, and far beyond.
+/// A good beginning, then one byte again and again: longer than the longest
+/// command, around the second program's room for a line, and far beyond.
 fn long_line(rng: &mut Rng, mut line: Vec<u8>) -> Vec<u8> {
+    let (longest, room) = (LONGEST_COMMAND as u32, LINE_ROOM as u32);
     let length = match rng.between(0, 9) {
-        0..=2 => rng.between(43, 48),
-        3..=6 => rng.between(60, 70),
+        0..=2 => rng.between(longest + 1, longest + 6),
+        3..=6 => rng.between(room - 4, room + 6),
         7 | 8 => rng.between(100, 3_000),
         _ => rng.between(8_000, 70_000),
     };
@@ -182,7 +186,7 @@ fn signed_number(rng: &mut Rng, line: Vec<u8>) -> Vec<u8> {
 #[cfg(test)]
 mod tests {
     use super::*;
-    use crate::script::parse;
+    use second::script::parse;
 
     #[test]
     fn every_spoil_spoils_every_line() {

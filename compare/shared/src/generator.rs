@@ -6,130 +6,18 @@
 //! made of (shape and size of the network, costs, order of deliveries, what
 //! happens how often) is drawn once for each network.
 
+mod illegal;
+mod plan;
+
 use crate::malformed;
-use crate::network::Network;
 use crate::rng::Rng;
-use crate::script::Runner;
-use crate::shapes::{self, Pair, Shape, SHAPES};
-use crate::tree::UnitNumber;
+use crate::shapes::Pair;
+use plan::{Action, Costs, Order, Plan};
+use second::limits::HIGHEST_COST;
+use second::network::Network;
+use second::script::Runner;
+use second::tree::UnitNumber;
 use std::io;
-
-/// Where link costs come from.
-#[derive(Clone, Copy, Debug)]
-enum Costs {
-    /// One and the same, for ties everywhere.
-    Equal(u32),
-    /// From 1 to 4, for many ties.
-    Small,
-    /// From 1 to 65,535, with both ends drawn often.
-    Whole,
-    /// Only the ends of the range and what is next to them.
-    Ends,
-}
-
-/// Which queue a delivery takes.
-#[derive(Clone, Copy, Debug)]
-enum Order {
-    /// Any.
-    Random,
-    /// The one with the lowest sender.
-    LowestFirst,
-    /// The one with the highest sender.
-    HighestFirst,
-    /// Any but those to and from one unit, which must wait for the others.
-    Starving(UnitNumber),
-}
-
-/// What happens next.
-#[derive(Clone, Copy, Debug)]
-enum Action {
-    Deliver,
-    Drain,
-    Event,
-    Burst,
-    LinkFlap,
-    CostFlap,
-    Illegal,
-    Malformed,
-    Show,
-    Restart,
-}
-
-/// How often each action comes, in parts of the sum.
-type Weights = [(Action, u32); 10];
-
-/// The weights for most lines being deliveries, with `faults` parts of illegal
-/// and of malformed lines and `storms` parts of bursts and flaps.
-fn weights(deliveries: u32, storms: u32, faults: u32) -> Weights {
-    [
-        (Action::Deliver, deliveries),
-        (Action::Drain, 4),
-        (Action::Event, 14),
-        (Action::Burst, storms),
-        (Action::LinkFlap, storms),
-        (Action::CostFlap, storms),
-        (Action::Illegal, faults),
-        (Action::Malformed, faults),
-        (Action::Show, 7),
-        (Action::Restart, 1),
-    ]
-}
-
-/// What is drawn once for each network.
-struct Plan {
-    count: u8,
-    pairs: Vec<Pair>,
-    costs: Costs,
-    order: Order,
-    weights: Weights,
-}
-
-impl Plan {
-    fn draw(rng: &mut Rng) -> Plan {
-        let count = match rng.between(0, 9) {
-            0..=2 => rng.between(2, 4),
-            3..=6 => rng.between(3, 8),
-            _ => rng.between(2, 16),
-        } as u8;
-        let shape = *rng.pick(&SHAPES).unwrap_or(&Shape::Mesh);
-        Plan {
-            count,
-            pairs: shapes::pairs(shape, count, rng),
-            costs: draw_costs(rng),
-            order: draw_order(count, rng),
-            weights: draw_weights(rng),
-        }
-    }
-}
-
-fn draw_costs(rng: &mut Rng) -> Costs {
-    match rng.between(0, 11) {
-        0 | 1 => Costs::Equal(1),
-        2 => Costs::Equal(65_535),
-        3 => Costs::Equal(rng.between(1, 65_535)),
-        4..=7 => Costs::Small,
-        8 | 9 => Costs::Whole,
-        _ => Costs::Ends,
-    }
-}
-
-fn draw_order(count: u8, rng: &mut Rng) -> Order {
-    match rng.between(0, 5) {
-        0 => Order::LowestFirst,
-        1 => Order::HighestFirst,
-        2 => Order::Starving(rng.between(0, u32::from(count) - 1) as UnitNumber),
-        _ => Order::Random,
-    }
-}
-
-fn draw_weights(rng: &mut Rng) -> Weights {
-    match rng.between(0, 4) {
-        0 => weights(150, 1, 1),
-        1 => weights(40, 12, 2),
-        2 => weights(40, 3, 20),
-        _ => weights(70, 4, 4),
-    }
-}
 
 /// A script under way.
 struct Generator {
@@ -344,7 +232,7 @@ impl Generator {
         let Some(&(a, b)) = self.rng.pick(&links) else {
             return self.event();
         };
-        let (one, other) = (self.draw_cost(), self.rng.between(1, 65_535));
+        let (one, other) = (self.draw_cost(), self.rng.between(1, HIGHEST_COST));
         for _ in 0..self.rng.between(2, 8) {
             let cost = if self.rng.chance(50) { one } else { other };
             self.line(format!("cost {a} {b} {cost}"));
@@ -374,10 +262,13 @@ impl Generator {
             Costs::Equal(_) | Costs::Small => self.rng.between(1, 4),
             Costs::Whole => match self.rng.between(0, 9) {
                 0 => 1,
-                1 => 65_535,
-                _ => self.rng.between(1, 65_535),
+                1 => HIGHEST_COST,
+                _ => self.rng.between(1, HIGHEST_COST),
             },
-            Costs::Ends => *self.rng.pick(&[1, 2, 65_534, 65_535]).unwrap_or(&1),
+            Costs::Ends => {
+                let ends = [1, 2, HIGHEST_COST - 1, HIGHEST_COST];
+                *self.rng.pick(&ends).unwrap_or(&1)
+            }
         }
     }
 
@@ -407,83 +298,5 @@ impl Generator {
             pairs.retain(|&(a, b)| network.queues.queue(a, b).is_empty());
         }
         pairs
-    }
-
-    /// A command that is refused, with each number that a script can meet.
-    fn illegal(&mut self) -> String {
-        let up = self.pairs_where(true);
-        let down = self.pairs_where(false);
-        let empty = self.pairs_with_empty_queue();
-        let drawn = match self.rng.between(1, 8) {
-            1 => Some(self.refused_units()),
-            2 => Some(self.bad_unit()),
-            3 => Some(self.bad_cost()),
-            4 => self.rng.pick(&up).map(|(a, b)| format!("up {a} {b} 1 1")),
-            5 => self.rng.pick(&down).map(|(a, b)| format!("cost {a} {b} 1")),
-            6 => self.rng.pick(&down).map(|(a, b)| format!("down {a} {b}")),
-            7 => {
-                let unlinked = if self.rng.chance(50) { &down } else { &empty };
-                let pair = self.rng.pick(unlinked);
-                pair.map(|(a, b)| format!("deliver {a} {b}"))
-            }
-            _ => None,
-        };
-        drawn.unwrap_or_else(|| self.any_command())
-    }
-
-    /// `units` with a count that is refused.
-    fn refused_units(&mut self) -> String {
-        let counts = [0, 1, 17, 18, 32, 255, 256, 258, 65_538, 999_999_999];
-        format!("units {}", self.rng.pick(&counts).unwrap_or(&0))
-    }
-
-    /// A unit number that is too great, or two equal ends.
-    fn bad_unit(&mut self) -> String {
-        let (a, b) = self.any_pair();
-        let count = self.network().map_or(16, |network| network.count().into());
-        let greater = [count, count + 1, 16, 255, 256, 257, 999_999_999];
-        let great = *self.rng.pick(&greater).unwrap_or(&count);
-        let (a, b) = match self.rng.between(0, 3) {
-            0 => (u32::from(a), u32::from(a)),
-            1 => (great, u32::from(b)),
-            2 => (u32::from(a), great),
-            _ => (great, great),
-        };
-        self.command_about(a, b, 1)
-    }
-
-    /// A cost that is refused, for any two units, whether linked or not.
-    fn bad_cost(&mut self) -> String {
-        let (a, b) = self.any_pair();
-        let costs = [0, 65_536, 65_537, 131_071, 999_999_999];
-        let bad = *self.rng.pick(&costs).unwrap_or(&0);
-        match self.rng.between(0, 2) {
-            0 => format!("up {a} {b} {bad} 1"),
-            1 => format!("up {a} {b} 1 {bad}"),
-            _ => format!("cost {a} {b} {bad}"),
-        }
-    }
-
-    /// A well-formed command of numbers that lie at borders, so that several
-    /// refusals may apply at once, or none.
-    fn any_command(&mut self) -> String {
-        let units = [0, 1, 2, 3, 15, 16, 17, 256, 999_999_999];
-        let costs = [0, 1, 2, 65_535, 65_536, 999_999_999];
-        let a = *self.rng.pick(&units).unwrap_or(&0);
-        let b = *self.rng.pick(&units).unwrap_or(&0);
-        let cost = *self.rng.pick(&costs).unwrap_or(&0);
-        if self.rng.chance(15) {
-            return "show".to_string();
-        }
-        self.command_about(a, b, cost)
-    }
-
-    fn command_about(&mut self, a: u32, b: u32, cost: u32) -> String {
-        match self.rng.between(0, 3) {
-            0 => format!("up {a} {b} {cost} {}", self.draw_cost()),
-            1 => format!("cost {a} {b} {cost}"),
-            2 => format!("down {a} {b}"),
-            _ => format!("deliver {a} {b}"),
-        }
     }
 }

@@ -1,7 +1,7 @@
 //! Shapes of networks for generated scripts.
 
 use crate::rng::Rng;
-use crate::tree::UnitNumber;
+use second::tree::UnitNumber;
 
 /// Two units to be linked.
 pub type Pair = (UnitNumber, UnitNumber);
@@ -73,7 +73,8 @@ fn links(shape: Shape, count: u8, a: u8, b: u8) -> bool {
             (a < half) == (b < half) || (a == 0 && b == half)
         }
         Shape::Grid => {
-            let width = (1..=4).find(|width| width * width >= count).unwrap_or(4);
+            let width = (1..=count).find(|width| width * width >= count);
+            let width = width.unwrap_or(count);
             b == a + width || (b == a + 1 && b / width == a / width)
         }
     }
@@ -82,6 +83,7 @@ fn links(shape: Shape, count: u8, a: u8, b: u8) -> bool {
 #[cfg(test)]
 mod tests {
     use super::*;
+    use crate::draw::{FEWEST, MOST};
     use std::collections::BTreeSet;
 
     fn number_of_pairs(shape: Shape, count: u8) -> usize {
@@ -94,7 +96,7 @@ mod tests {
 
     #[test]
     fn shapes_have_their_number_of_links() {
-        for count in 2..=16 {
+        for count in FEWEST as u8..=MOST as u8 {
             let units = usize::from(count);
             assert_eq!(number_of_pairs(Shape::Chain, count), units - 1);
             assert_eq!(number_of_pairs(Shape::Star, count), units - 1);

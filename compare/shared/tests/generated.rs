@@ -1,7 +1,8 @@
 //! What generated scripts hold: every kind of line and answer, every size.
 
-use second::generator::script;
 use second::script::{parse, Command, Runner};
+use shared::draw::{FEWEST, MOST};
+use shared::generator::script;
 use std::collections::BTreeMap;
 
 /// The lines of a script; a last line's end ends no further line.
@@ -75,8 +76,8 @@ fn scripts_have_the_lines_asked_for() {
     assert_eq!(script(0, Some(0)), b"");
 }
 
-/// Counts from 2 to 16 all occur, links as well, and some scripts end without
-/// a line's end, some have several networks.
+/// All legal counts occur, links as well, and some scripts end without a line's
+/// end, some have several networks.
 #[test]
 fn sizes_and_endings_vary() {
     let mut sizes = BTreeMap::new();
@@ -86,7 +87,7 @@ fn sizes_and_endings_vary() {
         open_ends += usize::from(!script.ends_with(b"\n"));
         let commands = lines(&script).into_iter().filter_map(parse);
         let good = |command| match command {
-            Command::Units(count @ 2..=16) => Some(count),
+            Command::Units(count @ FEWEST..=MOST) => Some(count),
             _ => None,
         };
         let counts: Vec<u32> = commands.filter_map(good).collect();
@@ -95,7 +96,7 @@ fn sizes_and_endings_vary() {
             *sizes.entry(count).or_insert(0) += 1;
         }
     }
-    assert!(sizes.keys().copied().eq(2..=16), "{sizes:?}");
+    assert!(sizes.keys().copied().eq(FEWEST..=MOST), "{sizes:?}");
     assert!((30..=100).contains(&open_ends), "{open_ends} open ends");
     assert!(restarts > 100, "{restarts} scripts with several networks");
 }

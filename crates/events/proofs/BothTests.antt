@@ -2,7 +2,6 @@
 use mathlib.Core.Bool.{Bool, true, false, not, _&&_}
 use mathlib.Core.Path.{_≡_, sym, _∙_}
 use borrow.Author.Tests.{not-true, not-false}
-use Rattle.ground.proofs.Tests.{both-of}
 
 module _ {x a : Bool} (e : x ≡ a) (b : Bool) where
   -- The first fails.

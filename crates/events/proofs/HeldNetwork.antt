@@ -5,18 +5,19 @@ use native.Mathlib.Omega.{arith}
 use mathlib.Core.Bool.{true}
 use mathlib.Core.List.{List, []}
 use mathlib.Core.Path.{_≡_, refl, sym, ap, ap₂, _∙_}
-use lib.ListN.{length, drop, length-drop}
+use lib.ListN.{drop, length-drop}
 use lib.Seq.{getD-drop}
 use Rattle.ground.specs.Limits.{unitLimit}
 use Rattle.ground.specs.Rows.{at, zeros}
 use Rattle.rules.specs.Event.{Reaction}
 use Rattle.rules.specs.Message.{Message}
 use Rattle.rules.specs.Network.{Network, queue, withQueue, reacted}
-use Rattle.rules.specs.Tables.{networkWords, networkBytes, queueBytes, laidUnits, laidQueue, laidQueues, networkFrom}
+use Rattle.rules.specs.Tables.{queueBytes, laidUnits, laidQueue, laidQueues, networkFrom}
 use Rattle.rules.specs.Tables.{fitTables}
 use Rattle.rules.proofs.Fit.{fit-network-shaped}
-use Rattle.rules.proofs.Laid.{ShapedQueue, ShapedNetwork, noMessage, laid-units-length, laid-queues-length, queue-part}
-use Rattle.rules.proofs.Laid.{network-lays-back}
+use Rattle.rules.proofs.Laid.{ShapedQueue, noMessage}
+use Rattle.rules.proofs.LaidNetwork.{ShapedNetwork}
+use Rattle.rules.proofs.LaidNetwork.{network-lays-back}
 use Rattle.queues.specs.Parcels.{hasRoom, sentTo}
 use Rattle.queues.specs.Queue.{queueOf, withBytes, poppedOf}
 use Rattle.queues.proofs.QueueMessages.{popped-laid}
@@ -25,7 +26,7 @@ use Rattle.events.specs.Telling.{usedBy}
 use Rattle.events.specs.declared.tell.Told.{Told}
 use Rattle.events.proofs.LaidTables.{table-laid, shaped-after, queue-found, queue-laid}
 use Rattle.events.proofs.MessageRoom.{fits, room-all}
-use Rattle.events.proofs.SentMessages.{messages-sent, shaped-reacted}
+use Rattle.events.proofs.PutMessages.{messages-sent, shaped-reacted}
 use Rattle.events.proofs.ToldUnit.{Tells}
 
 -- The tables hold a shaped network of n units.

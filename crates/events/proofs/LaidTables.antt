@@ -22,9 +22,9 @@ use Rattle.ground.proofs.Lists.{Blocks, blocks-tab, length-joined, map-blocks}
 use Rattle.ground.proofs.Rows.{length-tab, tab-at, tab-ext}
 use Rattle.ground.proofs.Stored.{map-set, block-filled}
 use Rattle.ground.proofs.Tests.{equal-or-not}
-use Rattle.rules.proofs.Laid.{ShapedUnit, ShapedQueue, ShapedNetwork, laid-unit-length, laid-queue-length}
-use Rattle.rules.proofs.Laid.{laid-units-length, laid-queues-length, queue-part}
-use Rattle.steps.proofs.Cases.{by-equal}
+use Rattle.rules.proofs.Laid.{ShapedUnit, ShapedQueue, laid-unit-length, laid-queue-length}
+use Rattle.rules.proofs.LaidNetwork.{ShapedNetwork, laid-units-length, laid-queues-length, queue-part}
+use Rattle.ground.proofs.Cases.{by-equal}
 use Rattle.steps.proofs.NetworkLists.{Shape, queue-here, queue-elsewhere, shape-queue}
 use Rattle.queues.proofs.QueueThere.{There as QueueThere, queue-is-part, put-is-paste as queue-put-is-paste}
 use Rattle.fitness.proofs.TableThere.{put-is-paste}

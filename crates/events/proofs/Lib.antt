@@ -3,6 +3,6 @@ pub mod BothTests
 pub mod HeldNetwork
 pub mod LaidTables
 pub mod MessageRoom
-pub mod SentMessages
+pub mod PutMessages
 pub mod TakesPlace
 pub mod ToldUnit

@@ -17,7 +17,8 @@ use Rattle.rules.specs.Tables.{laidQueues}
 use Rattle.queues.specs.Parcels.{isFull, hasRoom}
 use Rattle.ground.proofs.Rows.{every-ext, every-of}
 use Rattle.ground.proofs.Tests.{equal-or-not, yes-or-no, not-both}
-use Rattle.rules.proofs.Laid.{ShapedQueue, ShapedNetwork}
+use Rattle.rules.proofs.Laid.{ShapedQueue}
+use Rattle.rules.proofs.LaidNetwork.{ShapedNetwork}
 use Rattle.steps.proofs.OrderlyCalls.{queue-room}
 use Rattle.queues.proofs.QueueMessages.{held-laid}
 use Rattle.queues.proofs.SentParcels.{Lone, Single, Parcels, sentBy}

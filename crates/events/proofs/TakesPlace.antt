@@ -2,8 +2,9 @@
 use Prim.Native.Nat.{ℕ}
 use mathlib.Core.Bool.{Bool, true, false, not, _&&_}
 use mathlib.Core.List.{List}
-use mathlib.Core.Path.{_≡_, refl, sym, ap, _∙_}
+use mathlib.Core.Path.{_≡_, sym, ap, _∙_}
 use borrow.Author.Tests.{not-true, not-false}
+use Rattle.ground.specs.Refusal.{answerBase}
 use Rattle.ground.specs.Rows.{at}
 use Rattle.ground.proofs.Tests.{if-true, if-false}
 use Rattle.fitness.specs.UnitTables.{withTable}
@@ -30,7 +31,7 @@ module _ (words bytes : List ℕ) {count : ℕ} (counted : count ≡ at words 0)
     -- Room: the event takes place.
     pub one-happened : not found ≡ false → {held : List ℕ} → held ≡ poppedIf pops bytes other i → {after left : List ℕ}
         → (after ≡ withTable words i (told .table)) × (left ≡ isSent held count i told)
-        → (100 ≡ oneAnswer words bytes i told)
+        → (answerBase ≡ oneAnswer words bytes i told)
         × ((after ≡ oneWords words bytes i told) × (left ≡ oneBytes words bytes other i told pops))
     unfolding oneAnswer oneWords oneBytes
     one-happened t {held} p done =
@@ -65,7 +66,7 @@ module _ (words bytes : List ℕ) {count : ℕ} (counted : count ≡ at words 0)
     pub both-happened : not found ≡ false → {held : List ℕ} → held ≡ emptiedIf clears bytes a b → {mid left : List ℕ}
         → (mid ≡ withTable words a (one .table)) × (left ≡ isSent held count a one) → {last kept : List ℕ}
         → (last ≡ withTable mid b (two .table)) × (kept ≡ isSent left count b two)
-        → (100 ≡ bothAnswer words bytes a one b two)
+        → (answerBase ≡ bothAnswer words bytes a one b two)
         × ((last ≡ bothWords words bytes a one b two) × (kept ≡ bothBytes words bytes a one b two clears))
     unfolding bothAnswer bothWords bothBytes
     both-happened t {held} p {mid} {left} first second =

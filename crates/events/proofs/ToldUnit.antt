@@ -7,26 +7,25 @@ use mathlib.Core.Logic.{_≢_, inl, inr, ⊎-elim}
 use mathlib.Core.Path.{_≡_, refl, sym, ap, _∙_}
 use borrow.Author.Tests.{eq-eqb, ne-eqb}
 use lib.Dec.{eqb}
-use lib.ListN.{length, getD, take, drop}
+use lib.ListN.{length, take, drop}
 use lib.Seq.{take-all}
 use Rattle.ground.specs.Limits.{firmwareRoom}
-use Rattle.ground.specs.Refusal.{accepted}
+use Rattle.ground.specs.Refusal.{accepted, answerBase}
 use Rattle.ground.specs.Rows.{at, zeros}
 use Rattle.rules.specs.Event.{Event, Reaction, owedOf, noted, reaction}
 use Rattle.rules.specs.Hub.{HubCall, hubUp, hubCost, hubDown, hubMessage, eventOf, hubRefusal, hubAnswer, outgoing}
 use Rattle.rules.specs.Hub.{tableRefusal, tableAnswer, tableAfter, bufferAfter}
 use Rattle.rules.specs.Message.{Message, writtenLength}
-use Rattle.rules.specs.Network.{fitQueued}
 use Rattle.rules.specs.Tables.{queueBytes, laidUnit, unitFrom}
 use Rattle.rules.specs.Unit.{Unit, fitUnit}
 use Rattle.unit.specs.declared.calls.Call.the-variants.{Up, Cost, Down, Message as Brought}
 use Rattle.ground.proofs.Each.{each-first}
-use Rattle.ground.proofs.Lists.{parts}
 use Rattle.ground.proofs.Tests.{less-or-not, if-true, if-false}
 use Rattle.rules.proofs.Laid.{ShapedUnit, unit-reads-back}
-use Rattle.rules.proofs.Written.{legal-of}
-use Rattle.unit.proofs.Calling.{ready-of}
-use Rattle.steps.proofs.SentMessages.{Proper, Reacted, reacted-to}
+use Rattle.rules.proofs.LegalMessages.{legal-of}
+use Rattle.rules.proofs.QueuedMessages.{Proper, queued-legal}
+use Rattle.unit.proofs.ReadyCalls.{ready-of}
+use Rattle.steps.proofs.SentMessages.{Reacted, reacted-to}
 use Rattle.queues.specs.Queue.{queueOf}
 use Rattle.fitness.specs.UnitTables.{tableOf}
 use Rattle.events.specs.Telling.{toldBy, usedBy, firstIn, noneTold, firstTold}
@@ -44,16 +43,13 @@ still-fit words room (hubMessage from bytes) e = ready-of words room (Brought fr
 
 -- At most one proper message is none, or one that is legal.
 single-of : (n a : ℕ) (ms : List Message) → length ms ≤ 1 → Proper n a ms → Single n ms
-unfolding fitQueued
 single-of n a [] few proper = inl refl
-single-of n a (m ∷ []) few proper =
-    let fit : fitQueued n a m ≡ true = each-first proper in
-    inr (m, refl, legal-of n m (search parts))
+single-of n a (m ∷ []) few proper = inr (m, refl, legal-of n m (queued-legal n a m (each-first proper)))
 single-of n a (m ∷ k ∷ ms) few proper = absurd (omega arith)
 
 -- What a unit of n that is told of an event answers, leaves and sends, where its reaction is r.
 pub record Tells (n : ℕ) (told : Told) (r : Reaction) : Type 0 where
-  pub answer : 100 ≤ told .answer
+  pub answer : answerBase ≤ told .answer
   pub table : told .table ≡ laidUnit (r .unit)
   pub counted : r .unit .count ≡ n
   pub shaped : ShapedUnit (r .unit)
@@ -85,7 +81,7 @@ module _ (u : Unit) (s : ShapedUnit u) (fit : fitUnit u ≡ true) (call : HubCal
       reacted-to u e s (rw (unit-reads-back u s) at (still-fit (laidUnit u) firmwareRoom call free)) in
       let single : (k : ℕ) → k < u .count → Single (u .count) (sentBy r k) =
       λ k h. single-of (u .count) (u .me) _ (facts .few k h) (facts .sent k h) in
-      let answer : told .answer ≡ 100 + length (outgoing r) = told-answer ∙ rw ok in
+      let answer : told .answer ≡ answerBase + length (outgoing r) = told-answer ∙ rw ok in
       let used : usedBy told ≡ length (outgoing r) = omega arith in
       let sent : told .sent ≡ outgoing r ++ drop (length (outgoing r)) (zeros firmwareRoom) =
       rw (free, unit-reads-back u s) in

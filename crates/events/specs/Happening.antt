@@ -3,6 +3,7 @@ use Prim.Native.Nat.{ℕ}
 use mathlib.Core.Bool.{Bool, _&&_}
 use mathlib.Core.List.{List}
 use Rattle.ground.specs.Choice.{if_then_else_}
+use Rattle.ground.specs.Refusal.{answerBase}
 use Rattle.ground.specs.Rows.{at, zeros}
 use Rattle.rules.specs.Tables.{queueBytes}
 use Rattle.queues.specs.Parcels.{hasRoom, sentTo}
@@ -28,7 +29,7 @@ emptiedIf clears bytes a b =
 
 -- An event at unit i.
 unfoldable pub oneAnswer : (words bytes : List ℕ) (i : ℕ) → Told → ℕ
-oneAnswer words bytes i told = if findsRoom bytes (at words 0) i told then 100 else 13
+oneAnswer words bytes i told = if findsRoom bytes (at words 0) i told then answerBase else 13
 
 unfoldable pub oneWords : (words bytes : List ℕ) (i : ℕ) → Told → List ℕ
 oneWords words bytes i told =
@@ -43,7 +44,7 @@ abbrev pub bothFind : (words bytes : List ℕ) (a : ℕ) → Told → (b : ℕ) 
 bothFind words bytes a one b two = findsRoom bytes (at words 0) a one && findsRoom bytes (at words 0) b two
 
 unfoldable pub bothAnswer : (words bytes : List ℕ) (a : ℕ) → Told → (b : ℕ) → Told → ℕ
-bothAnswer words bytes a one b two = if bothFind words bytes a one b two then 100 else 13
+bothAnswer words bytes a one b two = if bothFind words bytes a one b two then answerBase else 13
 
 unfoldable pub bothWords : (words bytes : List ℕ) (a : ℕ) → Told → (b : ℕ) → Told → List ℕ
 bothWords words bytes a one b two =

@@ -5,6 +5,7 @@ use lib.Dec.{eqb}
 use lib.ListN.{take}
 use Rattle.ground.specs.Choice.{if_then_else_}
 use Rattle.ground.specs.Limits.{firmwareRoom}
+use Rattle.ground.specs.Refusal.{answerBase}
 use Rattle.ground.specs.Rows.{at, zeros}
 use Rattle.rules.specs.Hub.{HubCall, hubMessage, tableAnswer, tableAfter, bufferAfter}
 use Rattle.rules.specs.Message.{writtenLength}
@@ -24,7 +25,7 @@ toldBy table call =
 
 -- The bytes of its messages.
 abbrev pub usedBy : Told → ℕ
-usedBy told = told .answer - 100
+usedBy told = told .answer - answerBase
 
 -- The bytes of the first message of a queue, by its number of entries.
 abbrev pub firstIn : (queue : List ℕ) → List ℕ

@@ -3,22 +3,23 @@
 ghost use mathlib.Core.Bool.{_&&_};
 ghost use mathlib.Core.Path.{_≡_};
 ghost use Prim.Native.Nat.{_-_};
-ghost use Rattle.queues.specs.Parcels.{hasRoom, sentTo};
+ghost use Rattle.ground.specs.Refusal.{answerBase};
 ghost use Rattle.fitness.specs.UnitTables.{withTable};
 ghost use Rattle.events.specs.Happening.{findsRoom, isSent, poppedIf, emptiedIf, oneAnswer, oneWords, oneBytes, bothAnswer, bothWords, bothBytes};
 use crate::tell::Told;
 use fitness::tables;
+use ground::ANSWERED;
 use queues::parcels;
 use queues::queue;
 
 // The bytes of the messages that an answer tells of.
 fn used(answer: u32) -> usize
-    ensures { λ r. ⌜ r ≡ answer - 100 ⌝ }
+    ensures { λ r. ⌜ r ≡ answer - answerBase ⌝ }
 {
-    if answer < 100 {
+    if answer < ANSWERED {
         0
     } else {
-        answer as usize - 100
+        (answer - ANSWERED) as usize
     }
 }
 
@@ -88,7 +89,7 @@ pub fn at_one(
     }
     pop_if(queues, other, i, pops);
     happens(words, queues, count, i, told);
-    100
+    ANSWERED
 }
 
 // An event at each of two units; where the link between them goes down, its queues are emptied first.
@@ -112,5 +113,5 @@ pub fn at_both(
     clear_if(queues, a, b, clears);
     happens(words, queues, count, a, one);
     happens(words, queues, count, b, two);
-    100
+    ANSWERED
 }

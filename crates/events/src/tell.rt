@@ -3,7 +3,6 @@
 ghost use mathlib.Core.List.{[]};
 ghost use mathlib.Core.Path.{_≡_};
 ghost use Prim.Native.Nat.{min};
-ghost use Rattle.ground.specs.Rows.{at};
 ghost use Rattle.rules.specs.Message.{writtenLength};
 ghost use Rattle.rules.specs.Tables.{queueBytes};
 ghost use Rattle.unit.specs.Calls.{callOf};

@@ -14,13 +14,12 @@ use Rattle.ground.proofs.Each.{each-at}
 use Rattle.ground.proofs.Limits.{count-legal}
 use Rattle.ground.proofs.Lists.{parts, Under}
 use Rattle.ground.proofs.Rows.{every-at, every-of, eq-same}
-use Rattle.ground.proofs.Tests.{both-of}
+use Rattle.ground.proofs.Tests.{both-of, same-tests}
 use Rattle.rules.specs.Network.{Network, unitAt, queue, isUp, fitQueue, fitNetwork}
 use Rattle.rules.specs.Tables.{unitWords, part, unitFrom, fitUnitTable, queueBytes, laidQueue, networkWords, networkBytes}
 use Rattle.rules.specs.Tables.{queueAt, laidUnits, laidQueues, networkFrom, fitTables}
 use Rattle.rules.specs.Unit.{fitUnit}
 use Rattle.rules.proofs.Laid.{part-length, unit-lays-back, noMessage}
-use Rattle.queues.proofs.AllZero.{same-tests}
 use Rattle.fitness.specs.PartsFit.{fitTableAt, fitBytes, fitPair, fitSender, fitParts}
 use Rattle.fitness.specs.UnitTables.{isLinked}
 use Rattle.fitness.proofs.PartsOfFit.{tables-parts}

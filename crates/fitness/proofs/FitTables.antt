@@ -1,5 +1,5 @@
 -- Unit i's table among the tables of a network that are fit: it is what the network's unit i lays out, and fit.
-use Prim.Native.Nat.{ℕ, _+_, _*_, _≤_, _<_}
+use Prim.Native.Nat.{ℕ, _*_, _<_}
 use native.Mathlib.Omega.{arith}
 use mathlib.Core.Bool.{true}
 use mathlib.Core.List.{List}
@@ -15,7 +15,8 @@ use Rattle.rules.specs.Tables.{unitWords, networkWords, networkBytes, part, lai
 use Rattle.rules.specs.Tables.{fitTables}
 use Rattle.rules.specs.Unit.{Unit, fitUnit}
 use Rattle.rules.proofs.Fit.{fit-tables-of, fit-network-shaped}
-use Rattle.rules.proofs.Laid.{ShapedUnit, unit-part, laid-unit-length, unit-reads-back, network-lays-back}
+use Rattle.rules.proofs.Laid.{ShapedUnit, laid-unit-length, unit-reads-back}
+use Rattle.rules.proofs.LaidNetwork.{unit-part, network-lays-back}
 use Rattle.fitness.specs.UnitTables.{tableOf}
 use Rattle.fitness.proofs.TableThere.{There, table-is-part}
 

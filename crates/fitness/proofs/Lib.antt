@@ -5,6 +5,5 @@ pub mod FitTables
 pub mod PartsOfFit
 pub mod PartsRead
 pub mod PlacesFit
-pub mod ReadPlace
 pub mod TableThere
 pub mod Tiles

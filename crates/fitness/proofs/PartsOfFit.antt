@@ -7,22 +7,21 @@ use mathlib.Core.List.{List}
 use mathlib.Core.Path.{_≡_, refl, sym, ap, _∙_}
 use borrow.Author.Tests.{eq-eqb}
 use lib.ListN.{length, drop}
-use lib.Seq.{getD-drop}
 use Rattle.ground.specs.Limits.{unitLimit, legalCount}
 use Rattle.ground.specs.Rows.{at, tab, every, joined, filled}
-use Rattle.ground.proofs.Each.{each-of}
 use Rattle.ground.proofs.Filled.{length-filled}
 use Rattle.ground.proofs.Limits.{count-legal}
 use Rattle.ground.proofs.Lists.{parts, blocks-tab, length-joined}
-use Rattle.ground.proofs.Rows.{length-tab, every-at, every-of}
+use Rattle.ground.proofs.Rows.{length-tab, every-of}
 use Rattle.ground.proofs.Tests.{both-of}
-use Rattle.rules.specs.Network.{Network, queue, isUp, nextMessage, fitQueued, fitQueue}
+use Rattle.rules.specs.Network.{Network, queue, isUp, fitQueue}
 use Rattle.rules.specs.Tables.{unitWords, part, unitFrom, queueBytes, networkWords, networkBytes, queueAt, networkFrom}
 use Rattle.rules.specs.Tables.{fitTables}
 use Rattle.rules.proofs.Fit.{FitNetwork, fit-tables-of, fit-network-shaped}
-use Rattle.rules.proofs.Laid.{ShapedNetwork, part-length, unit-lays-back, laid-queue-length, queue-part, noMessage}
-use Rattle.rules.proofs.Laid.{network-lays-back}
-use Rattle.queues.specs.Slices.{isNothing}
+use Rattle.rules.proofs.Laid.{part-length, unit-lays-back, laid-queue-length}
+use Rattle.rules.proofs.LaidNetwork.{ShapedNetwork, queue-part, network-lays-back}
+use Rattle.rules.proofs.QueuedMessages.{queue-proper}
+use Rattle.slices.specs.Slices.{isNothing}
 use Rattle.fitness.specs.PartsFit.{fitTableAt, fitBytes, fitPair, fitSender, fitParts}
 use Rattle.fitness.specs.UnitTables.{isLinked}
 use Rattle.fitness.proofs.FitTables.{fit-length, bytes-length, table-there, table-fits}
@@ -117,10 +116,7 @@ module _ (words bytes : List ℕ) where
           let queued : fitQueue net a b ≡ true = fit .queued a b l k in
           record {
             room = shaped .each a b l k .room;
-            proper = each-of (queue net a b) noMessage (λ i h.
-                rw (getD-drop, add-zero) at
-                (every-at (length (queue net a b)) (λ j. fitQueued n a (nextMessage (drop j (queue net a b))))
-                (search parts) i h));
+            proper = queue-proper net a b queued;
             quiet = rw (pair-linked a b l k) (search parts);
           }
 

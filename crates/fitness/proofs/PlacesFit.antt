@@ -8,10 +8,10 @@ use mathlib.Core.Path.{_≡_, refl, sym, ap, _∙_}
 use lib.Dec.{eqb}
 use lib.ListN.{length, take, drop, take-append-drop}
 use lib.Seq.{getD-take, take-at, drop-at}
-use borrow.Author.Tests.{eqb-true, le-leb, eq-eqb}
+use borrow.Author.Tests.{le-leb, eq-eqb}
 use Rattle.ground.specs.Limits.{unitLimit, queueRoom, entryLimit, messageRoom}
 use Rattle.ground.specs.Rows.{at, tab, joined, filled}
-use Rattle.ground.proofs.Each.{Each, each-at, each-of}
+use Rattle.ground.proofs.Each.{each-at, each-of}
 use Rattle.ground.proofs.Filled.{length-filled}
 use Rattle.ground.proofs.Lists.{parts, map-tab, Under}
 use Rattle.ground.proofs.Rows.{length-tab, tab-at, tab-row, every-at, every-of}
@@ -19,8 +19,10 @@ use Rattle.ground.proofs.Tests.{both-of}
 use Rattle.rules.specs.Message.{Message, written, writtenLength, messageOf, legalMessage, readable}
 use Rattle.rules.specs.Network.{fitQueued}
 use Rattle.rules.specs.Tables.{part, queueBytes, laidQueue, queueFrom}
-use Rattle.rules.proofs.Laid.{ShapedQueue, noMessage, messageAt, part-length}
-use Rattle.rules.proofs.Written.{legal-of, written-length, written-readable, reads-back-from, readable-of, writes-back}
+use Rattle.rules.proofs.Laid.{noMessage, messageAt, part-length}
+use Rattle.rules.proofs.LegalMessages.{legal-of}
+use Rattle.rules.proofs.QueuedMessages.{queued-legal, queued-sender, Proper, proper-shaped}
+use Rattle.rules.proofs.Written.{written-length, written-readable, reads-back-from, readable-of, writes-back}
 use Rattle.queues.specs.Queue.{heldIn}
 use Rattle.queues.proofs.QueueMessages.{held-laid}
 use Rattle.queues.proofs.QueueThere.{held-most}
@@ -43,19 +45,9 @@ sender-at m rest = refl
 
 module _ (n a : ℕ) (high : n ≤ unitLimit) where
   module _ (m : Message) (fit : fitQueued n a m ≡ true) where
-    -- A message that may be queued is legal.
-    legal : legalMessage n m ≡ true
-    unfolding fitQueued
-    legal = search parts
-
-    -- Its sender is a.
-    sent : m .sender ≡ a
-    unfolding fitQueued
-    sent = eqb-true (m .sender) a (search parts)
-
     -- It has no more entries than there is room for.
     few : length (m .changes) ≤ entryLimit
-    few = omega (arith, legal-of n m legal .entries)
+    few = omega (arith, legal-of n m (queued-legal n a m fit) .entries)
 
     -- Its bytes fill a place.
     pub place-length : length (placeOf m) ≡ messageRoom
@@ -66,6 +58,8 @@ module _ (n a : ℕ) (high : n ≤ unitLimit) where
     unfolding fitPlace
     place-fits =
         let long = written-length m in
+        let legal = queued-legal n a m fit in
+        let sent = queued-sender n a m fit in
         rw (
           entries-at m _,
           sender-at m _,
@@ -108,10 +102,6 @@ module _ (n a : ℕ) (high : n ≤ unitLimit) where
         ap (fitQueued n a) (start-read rest)
         ∙ both-of _ _ legal (ap (λ (x : ℕ). eqb x a) (getD-take (lengthIn p) p 1 0 (omega arith)) ∙ (search parts))
 
--- Each message of a list is legal in a network of n units and from unit a.
-abbrev pub Proper : (n a : ℕ) → List Message → Type 0
-Proper n a ms = Each (λ m. fitQueued n a m ≡ true) ms
-
 -- What the rules ask of a queue: at most its room of messages, each of which may be queued; none where the link is down.
 pub record QueueFit (n a : ℕ) (up : Bool) (ms : List Message) : Type 0 where
   pub room : length ms ≤ queueRoom
@@ -120,14 +110,6 @@ pub record QueueFit (n a : ℕ) (up : Bool) (ms : List Message) : Type 0 where
 
 module _ (n a : ℕ) (high : n ≤ unitLimit) (up : Bool) where
   module _ (ms : List Message) (f : QueueFit n a up ms) where
-    -- Its messages are legal.
-    queue-shaped : ShapedQueue n ms
-    queue-shaped =
-        record {
-          room = f .room;
-          each = λ i l. legal-of n (messageAt ms i) (legal n a high (messageAt ms i) (each-at (f .proper) i noMessage l));
-        }
-
     -- The bytes of place i.
     abbrev place : ℕ → List ℕ
     place i = placeOf (messageAt ms i)
@@ -147,7 +129,7 @@ module _ (n a : ℕ) (high : n ≤ unitLimit) (up : Bool) where
     pub bytes-fit : fitBytes n a up (laidQueue ms) ≡ true
     unfolding fitBytes
     bytes-fit =
-        rw (held-laid n high ms queue-shaped, ← places-laid)
+        rw (held-laid n high ms (proper-shaped n a ms (f .room) (f .proper)), ← places-laid)
         (both-of _ _
         (both-of _ _ (f .quiet)
         (every-of (length ms) _ (λ i l.

@@ -13,8 +13,8 @@ use Rattle.ground.specs.Limits.{unitLimit}
 use Rattle.ground.specs.Rows.{at, zeros}
 use Rattle.ground.proofs.Tests.{and-false, both-of, if-true, if-false}
 use Rattle.rules.specs.Tables.{unitWords, networkWords, part, costsAt}
-use Rattle.queues.specs.Slices.{laidOver}
-use Rattle.queues.proofs.Stretches.{copied, replaced}
+use Rattle.slices.specs.Slices.{laidOver}
+use Rattle.slices.proofs.Stretches.{copied, replaced}
 use Rattle.fitness.specs.UnitTables.{hasTable, tableOf, withTable, isLinked}
 
 -- Numbers of all tables, among which one is unit i's.

@@ -13,7 +13,7 @@ use Rattle.ground.proofs.Lists.{Under, blocks-tab, length-joined, block, joined
 use Rattle.ground.proofs.Rows.{length-tab, tab-at, tab-ext, same-eq, eq-same}
 use Rattle.ground.proofs.Tests.{less-or-not}
 use Rattle.rules.specs.Tables.{part}
-use Rattle.queues.specs.Slices.{isNothing}
+use Rattle.slices.specs.Slices.{isNothing}
 
 -- Without its first i numbers, the first n numbers of a list are a part of it.
 drop-take : (i n : ℕ) (xs : List ℕ) → drop i (take n xs) ≡ take (n - i) (drop i xs)

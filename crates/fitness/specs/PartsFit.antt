@@ -1,7 +1,7 @@
 -- The fitness of a network's tables, part by part, in the order in which the code looks at them. proofs/FitOfParts.antt shows
 -- that it is `fitTables`.
 use Prim.Native.Nat.{ℕ, _+_, _*_, _-_}
-use mathlib.Core.Bool.{Bool, not, _&&_, _||_, Bool·beq}
+use mathlib.Core.Bool.{Bool, _&&_, _||_, Bool·beq}
 use mathlib.Core.List.{List}
 use lib.Dec.{eqb, leb}
 use lib.ListN.{length, take, drop}
@@ -10,7 +10,7 @@ use Rattle.ground.specs.Rows.{at, every}
 use Rattle.rules.specs.Message.{readable, writtenLength}
 use Rattle.rules.specs.Tables.{unitWords, networkWords, networkBytes, queueBytes, queueAt, part, fitUnitTable}
 use Rattle.queues.specs.Queue.{heldIn}
-use Rattle.queues.specs.Slices.{isNothing}
+use Rattle.slices.specs.Slices.{isNothing}
 use Rattle.fitness.specs.UnitTables.{isLinked}
 
 -- The bytes of the message at the start of a place.

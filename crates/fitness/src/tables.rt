@@ -1,41 +1,12 @@
-// The tables of all units: their count, one unit's table among them, zeros over all.
+// The tables of all units: their count, and one unit's table among them.
 ghost use mathlib.Core.Path.{_≡_};
-ghost use lib.ListN.{length};
-ghost use Rattle.ground.specs.Rows.{at, zeros};
-ghost use Rattle.queues.specs.Slices.{laidOver};
+ghost use Rattle.ground.specs.Rows.{at};
 ghost use Rattle.fitness.specs.UnitTables.{tableOf, withTable, isLinked};
 use ground::NETWORK_WORDS;
 use ground::UNIT_WORDS;
 use ground::UNITS;
+use slices::numbers;
 use state::held::COSTS;
-
-// Numbers laid over others from a place on. Where they don't fit there nothing changes.
-fn lay_over(to: &mut [u32], place: usize, from: &[u32])
-    ensures { λ r. ⌜ now (to .exit) ≡ laidOver (now (to .entry)) place (now (from .entry)) ⌝ }
-{
-    if to.len() < from.len() {
-        return;
-    }
-    if to.len() - from.len() < place {
-        return;
-    }
-    let mut j = 0;
-    while j < from.len() {
-        to[place + j] = from[j];
-        j += 1;
-    }
-}
-
-// Zeros over all numbers.
-pub fn clear(words: &mut [u32])
-    ensures { λ r. ⌜ now (words .exit) ≡ zeros (length (now (words .entry))) ⌝ }
-{
-    let mut i = 0;
-    while i < words.len() {
-        words[i] = 0;
-        i += 1;
-    }
-}
 
 // A number of a table as an index.
 pub(crate) fn wide(x: u32) -> usize
@@ -66,7 +37,7 @@ pub fn load(words: &[u32], i: usize) -> [u32; UNIT_WORDS]
         return table;
     }
     let from = i * UNIT_WORDS;
-    lay_over(&mut table, 0, &words[from..from + UNIT_WORDS]);
+    numbers::lay_over(&mut table, 0, &words[from..from + UNIT_WORDS]);
     table
 }
 
@@ -80,7 +51,7 @@ pub fn put(words: &mut [u32], i: usize, table: [u32; UNIT_WORDS])
     if UNITS <= i {
         return;
     }
-    lay_over(words, i * UNIT_WORDS, &table);
+    numbers::lay_over(words, i * UNIT_WORDS, &table);
 }
 
 // Whether unit a's table has the link to b up.

@@ -1,5 +1,6 @@
 -- Laws of rows, tests and limits, and the pigeonhole.
 pub mod Bits
+pub mod Cases
 pub mod Choices
 pub mod Each
 pub mod Filled
@@ -11,7 +12,6 @@ pub mod Nothing
 pub mod Parts
 pub mod Pigeonhole
 pub mod Places
-pub mod Prefixes
 pub mod Refusal
 pub mod Rows
 pub mod Stored

@@ -2,7 +2,7 @@
 -- choice by a test takes.
 use mathlib.Core.Bool.{Bool, true, false, not, _&&_, _||_, true≢false, false≢true}
 use mathlib.Core.Logic.{_⊎_, inl, inr, ⊎-elim, _≢_}
-use mathlib.Core.Path.{_≡_, refl}
+use mathlib.Core.Path.{_≡_, refl, sym}
 use Prim.Native.Nat.{ℕ, _≤_, _<_}
 use lib.Dec.{eqb, ltb}
 use borrow.Author.Tests.{eqb-true, eqb-false, ltb-true, ltb-false}
@@ -22,6 +22,12 @@ not-both false p q = false≢true p
 pub yes-or-no : (a : Bool) → (a ≡ true) ⊎ (a ≡ false)
 yes-or-no true = inl refl
 yes-or-no false = inr refl
+
+-- Tests of which each holds where the other does are the same.
+pub same-tests : (a b : Bool) → (a ≡ true → b ≡ true) → (b ≡ true → a ≡ true) → a ≡ b
+same-tests true b f g = sym (f refl)
+same-tests false true f g = g refl
+same-tests false false f g = refl
 
 -- Two numbers are equal or not.
 pub equal-or-not : (a b : ℕ) → (a ≡ b) ⊎ (a ≢ b)

@@ -11,6 +11,10 @@ infixr 12 _otherwise_
 abbrev pub accepted : ℕ
 accepted = 0
 
+-- "An accepted event answers 100 plus the bytes used": what is not refused answers this plus a value, above every refusal.
+abbrev pub answerBase : ℕ
+answerBase = 100
+
 -- The number, where the condition holds.
 abbrev pub _gives_ : (condition : Bool) (number : ℕ) → ℕ
 condition gives number = if condition then number else accepted

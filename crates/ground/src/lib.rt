@@ -49,6 +49,9 @@ pub const NETWORK_BYTES: usize = UNITS * SENDER_BYTES;
 // The numbers in the tables of all units.
 pub const NETWORK_WORDS: usize = UNITS * UNIT_WORDS;
 
+// What is not refused answers this plus a value; every refusal is below it.
+pub const ANSWERED: u32 = 100;
+
 // Whether a number is a link's cost.
 pub fn is_legal_cost(cost: u32) -> bool
     ensures { λ r. ⌜ r ≡ legalCost cost ⌝ }

@@ -13,14 +13,16 @@ use Rattle.rules.specs.Network.{Network, Call, fresh, outcome, callRefusal, ste
 use Rattle.rules.specs.Unit.{freshUnit}
 use Rattle.loopfree.specs.Conditions.{isStart}
 use Rattle.loopfree.specs.Reached.{run, reached}
-use Rattle.loopfree.proofs.Conditions.{start-fit, start-shaped, start-holds, holds-start}
+use Rattle.loopfree.proofs.ConditionsOfInvariant.{holds-start}
+use Rattle.loopfree.proofs.InvariantOfConditions.{start-holds}
+use Rattle.loopfree.proofs.ShapedStart.{start-fit, start-shaped}
 use Rattle.loopfree.proofs.Invariant.{Holds, Any}
 use Rattle.loopfree.proofs.Kept.{keeps-call, fresh-holds}
 use Rattle.ground.proofs.Each.{none}
 use Rattle.ground.proofs.Tests.{both}
 use Rattle.rules.proofs.Fit.{FitNetwork, fit-network-of}
-use Rattle.rules.proofs.Laid.{ShapedNetwork}
-use Rattle.steps.proofs.Cases.{by-test}
+use Rattle.rules.proofs.LaidNetwork.{ShapedNetwork}
+use Rattle.ground.proofs.Cases.{by-test}
 use Rattle.steps.proofs.Fresh.{fresh-shaped, fresh-fit, fresh-shape, fresh-unit, fresh-queue, fresh-down}
 use Rattle.steps.proofs.OrderlyNetwork.{Orderly}
 use Rattle.steps.proofs.OrderlyCalls.{Roomy, orderly-shaped, outcome-shaped}

@@ -20,14 +20,14 @@ use Rattle.ground.proofs.Lists.{parts}
 use Rattle.ground.proofs.Rows.{some-at}
 use Rattle.ground.proofs.Tests.{not-yes}
 use Rattle.rules.proofs.Fit.{FitNetwork, fit-network-of}
-use Rattle.steps.proofs.Cases.{by-test, by-equal}
+use Rattle.ground.proofs.Cases.{by-test, by-equal}
 use Rattle.loopfree.proofs.Exchange.{oneIf, one-of}
 use Rattle.loopfree.proofs.Invariant.{Holds, Any, LineOf}
 use Rattle.loopfree.proofs.Kept.{keeps-call, reached-holds}
 use Rattle.loopfree.proofs.Sound.{Home}
 use Rattle.steps.proofs.OrderlyNetwork.{Orderly}
 use Rattle.lasting.proofs.ReachedFit.{Kept, start-kept, run-kept, reached-kept}
-use Rattle.steps.proofs.SentMessages.{Proper}
+use Rattle.rules.proofs.QueuedMessages.{Proper}
 use Rattle.steps.proofs.OrderlyCalls.{orderly-of, outcome-orderly}
 
 -- "Byte 2: 1 acknowledgment, 2 update, 3 both": a legal message holds one of the two.

@@ -1,6 +1,5 @@
 -- A call that is not refused leaves a fit and shaped network fit: its links are up at both ends or at none, as before.
 use Prim.Native.Nat.{ℕ, _<_}
-use native.Mathlib.Nat.{add-zero}
 use native.Mathlib.Omega.{arith}
 use mathlib.Core.Bool.{Bool, true, false, not, _&&_, Bool·beq}
 use mathlib.Core.List.{List}
@@ -8,7 +7,7 @@ use mathlib.Core.Path.{_≡_, refl, sym, ap, _∙_}
 use borrow.Author.Tests.{eq-eqb, ne-eqb, le-leb}
 use lib.Dec.{eqb}
 use lib.ListN.{length, set, drop}
-use lib.Seq.{getD-drop, getD-set-other, set-getD}
+use lib.Seq.{getD-set-other, set-getD}
 use Rattle.ground.specs.Limits.{queueRoom}
 use Rattle.ground.specs.Refusal.{accepted}
 use Rattle.ground.specs.Rows.{at, every}
@@ -21,11 +20,13 @@ use Rattle.ground.proofs.Limits.{count-legal}
 use Rattle.ground.proofs.Rows.{every-of}
 use Rattle.ground.proofs.Tests.{both-of, either-left, either-right}
 use Rattle.rules.proofs.Fit.{FitNetwork}
-use Rattle.rules.proofs.Laid.{noMessage, ShapedNetwork}
+use Rattle.rules.proofs.Laid.{noMessage}
+use Rattle.rules.proofs.LaidNetwork.{ShapedNetwork}
+use Rattle.rules.proofs.QueuedMessages.{message-at}
 use Rattle.steps.proofs.AcceptedCalls.{Ends, AcceptedUp, AcceptedCost, AcceptedDelivery}
 use Rattle.steps.proofs.AcceptedCalls.{accepted-up, accepted-cost, accepted-down, accepted-delivery}
 use Rattle.steps.proofs.LinkEnds.{end-set}
-use Rattle.steps.proofs.Cases.{by-test, by-equal}
+use Rattle.ground.proofs.Cases.{by-test, by-equal}
 use Rattle.loopfree.proofs.Invariant.{by-direction}
 use Rattle.steps.proofs.NetworkLists.{emptied}
 use Rattle.steps.proofs.OrderlyNetwork.{Orderly, end-here, end-other}
@@ -138,7 +139,7 @@ queue-fit net o roomy a b ha hb =
           (λ closed. either-right (isUp net a b) _ (eq-eqb _ 0 (ap length (o .quiet a b ha hb closed)))),
     )
     (every-of (length (queue net a b)) (λ i. fitQueued (net .count) a (nextMessage (drop i (queue net a b)))) (λ i l.
-    rw (getD-drop, add-zero) (each-at (o .queued a b ha hb) i noMessage l)))
+    rw message-at (each-at (o .queued a b ha hb) i noMessage l)))
 
 -- An orderly network whose links are up at both ends or at none and whose queues have at most their room is fit.
 pub orderly-fit : (net : Network) → Orderly net → Alike net → Roomy net → fitNetwork net ≡ true

@@ -18,9 +18,10 @@ use Rattle.lasting.specs.ReachedTables.{Tables, after, runTables, freshT
 use Rattle.ground.proofs.Rows.{eq-same}
 use Rattle.ground.proofs.Tests.{both, both-of}
 use Rattle.rules.proofs.Fit.{fit-network-shaped}
-use Rattle.rules.proofs.Laid.{ShapedNetwork, laid-units-length, laid-queues-length, network-reads-back, network-lays-back}
-use Rattle.loopfree.proofs.Conditions.{shaped-places}
-use Rattle.steps.proofs.Cases.{by-test}
+use Rattle.rules.proofs.LaidNetwork.{ShapedNetwork, laid-units-length, laid-queues-length, network-reads-back}
+use Rattle.rules.proofs.LaidNetwork.{network-lays-back}
+use Rattle.loopfree.proofs.ShapedStart.{shaped-places}
+use Rattle.ground.proofs.Cases.{by-test}
 use Rattle.lasting.proofs.ReachedFit.{Kept, start-kept, fresh-kept, step-kept, run-kept}
 
 -- The tables that hold a network.

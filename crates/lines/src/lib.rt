@@ -3,10 +3,11 @@ ghost use mathlib.Core.Bool.{true};
 ghost use mathlib.Core.Path.{_≡_};
 ghost use Prim.Native.Nat.{_≤_};
 ghost use lib.ListN.{length};
-ghost use Rattle.ground.specs.Rows.{at, every, same};
+ghost use Rattle.ground.specs.Rows.{at, every};
 ghost use Rattle.lines.specs.Commands.{commandOf};
 ghost use Rattle.lines.specs.Following.{Told, eitherOf, chosen};
 ghost use Rattle.lines.specs.Words.{wordEnd, isDigit, isDecimal, valueOf};
+use slices::bytes;
 
 // The most digits of a decimal, and the most decimals of a command.
 const DIGITS: usize = 9;
@@ -46,23 +47,6 @@ fn word_end(line: &[u8]) -> usize
         i += 1;
     }
     i
-}
-
-// Whether two texts are the same.
-fn is_same(a: &[u8], b: &[u8]) -> bool
-    ensures { λ r. ⌜ r ≡ same (now (a .entry)) (now (b .entry)) ⌝ }
-{
-    if a.len() != b.len() {
-        return false;
-    }
-    let mut i = 0;
-    while i < a.len() {
-        if a[i] != b[i] {
-            return false;
-        }
-        i += 1;
-    }
-    true
 }
 
 // The byte after the digits.
@@ -166,7 +150,7 @@ fn either(
 ) -> Command
     ensures { λ r. ⌜ r ≡ eitherOf (now (word .entry)) count (now (name .entry)) k first second ⌝ }
 {
-    if !is_same(word, name) {
+    if !bytes::is_same(word, name) {
         return second;
     }
     if count == k {

@@ -21,7 +21,7 @@ use Rattle.rules.specs.Network.{Network, unitAt, queue, isUp, withQueue, happen
 use Rattle.rules.specs.Unit.{Unit}
 use Rattle.loopfree.specs.Conditions.{acknowledgmentsIn, heard}
 use Rattle.steps.proofs.AcceptedCalls.{LegalCost}
-use Rattle.steps.proofs.Cases.{by-test}
+use Rattle.ground.proofs.Cases.{by-test}
 use Rattle.steps.proofs.LinkEnds.{end-set, end-up}
 use Rattle.steps.proofs.SentMessages.{not-count}
 use Rattle.loopfree.proofs.Ends.{one-end, two-ends}

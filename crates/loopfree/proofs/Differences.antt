@@ -18,7 +18,7 @@ use Rattle.tree.specs.Tree.{nothing}
 use Rattle.rules.specs.Event.{changesNothing}
 use Rattle.rules.specs.Message.{change, unitOf, bodyOf, removed, entryOf, bodyFor, differences, applied}
 use Rattle.rules.proofs.Applied.{withChange, applied-more, length-applied}
-use Rattle.steps.proofs.Cases.{by-test, by-equal}
+use Rattle.ground.proofs.Cases.{by-test, by-equal}
 
 -- The body of an entry below the body for a removed one gives it back, and is short itself.
 body-back : (e : ℕ) → e < removed → (entryOf (bodyFor e) ≡ e) × (bodyFor e < changeBase)

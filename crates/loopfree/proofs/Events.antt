@@ -19,7 +19,7 @@ use Rattle.tree.proofs.Rooted.{zeros-tree}
 use Rattle.rules.specs.Event.{received, linkUp, newCost, linkDown, noted}
 use Rattle.rules.specs.Message.{Message, holdsUpdate, holdsAcknowledgment, applied}
 use Rattle.rules.specs.Unit.{Unit}
-use Rattle.steps.proofs.Cases.{by-test, by-equal}
+use Rattle.ground.proofs.Cases.{by-test, by-equal}
 use Rattle.steps.proofs.SentMessages.{not-count}
 use Rattle.loopfree.proofs.Sound.{Links, linksOf, SoundLinks, Sound, Touch}
 

@@ -17,7 +17,7 @@ use Rattle.tree.specs.Tree.{distance}
 use Rattle.rules.specs.Event.{changesNothing}
 use Rattle.rules.specs.Message.{Message, holdsUpdate, holdsAcknowledgment, applied}
 use Rattle.loopfree.specs.Conditions.{countIn, updatesIn, acknowledgmentsIn, heard, heardAll}
-use Rattle.steps.proofs.Cases.{by-test}
+use Rattle.ground.proofs.Cases.{by-test}
 
 -- 1 where a test holds, else 0.
 abbrev pub oneIf : Bool → ℕ

@@ -20,7 +20,7 @@ use Rattle.tree.specs.Tree.{distance}
 use Rattle.rules.specs.Event.{newTree, lowered, changed, isAlone, newFeasible}
 use Rattle.rules.specs.Message.{Message}
 use Rattle.rules.specs.Unit.{Unit, isNeighbour, awaits, isActive, ownDistance}
-use Rattle.steps.proofs.Cases.{by-test}
+use Rattle.ground.proofs.Cases.{by-test}
 use Rattle.loopfree.proofs.Exchange.{Line, line-settled}
 use Rattle.loopfree.proofs.Trees.{zeros-furthest}
 

@@ -16,7 +16,7 @@ use Rattle.rules.specs.Event.{Event, Reaction, newOf, owedOf, reaction}
 use Rattle.rules.specs.Message.{Message}
 use Rattle.rules.specs.Network.{Network, unitAt, queue, isUp, withQueue, reacted, happens}
 use Rattle.rules.specs.Unit.{Unit, isNeighbour}
-use Rattle.steps.proofs.Cases.{by-equal}
+use Rattle.ground.proofs.Cases.{by-equal}
 use Rattle.loopfree.proofs.Exchange.{Line, oneIf, line-back}
 use Rattle.loopfree.proofs.Reaction.{Ready, Reacts, reacts}
 use Rattle.loopfree.proofs.Sent.{From}

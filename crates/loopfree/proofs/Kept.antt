@@ -18,6 +18,7 @@ use Rattle.ground.proofs.Lists.{at-zeros}
 use Rattle.ground.proofs.Rows.{tab-at, length-tab}
 use Rattle.ground.proofs.Tests.{both, less-or-not}
 use Rattle.tree.specs.Tree.{distance}
+use Rattle.tree.proofs.Alone.{alone-recomputed}
 use Rattle.tree.proofs.Rooted.{zeros-tree}
 use Rattle.tree.proofs.Tree.{distance-root, distance-none}
 use Rattle.rules.specs.Event.{received, messageRefusal}
@@ -29,8 +30,7 @@ use Rattle.loopfree.specs.Reached.{run, reached}
 use Rattle.steps.proofs.AcceptedCalls.{Ends, AcceptedUp, AcceptedCost, AcceptedDelivery, message-tree}
 use Rattle.steps.proofs.AcceptedCalls.{accepted-up, accepted-cost, accepted-down, accepted-delivery}
 use Rattle.loopfree.proofs.Calls.{keeps-cost, keeps-up, keeps-down, keeps-delivery}
-use Rattle.steps.proofs.Alone.{alone-recomputed}
-use Rattle.steps.proofs.Cases.{by-test, by-equal}
+use Rattle.ground.proofs.Cases.{by-test, by-equal}
 use Rattle.steps.proofs.Fresh.{fresh-copy, fresh-down, fresh-shape, fresh-unit, fresh-queue}
 use Rattle.loopfree.proofs.Exchange.{line-down}
 use Rattle.loopfree.proofs.Invariant.{Direction, Holds, Any}

@@ -1,6 +1,6 @@
 -- That MPDA never routes in a circle.
 pub mod Calls
-pub mod Conditions
+pub mod ConditionsOfInvariant
 pub mod Differences
 pub mod Ends
 pub mod Events
@@ -8,10 +8,12 @@ pub mod Exchange
 pub mod Feasible
 pub mod Following
 pub mod Invariant
+pub mod InvariantOfConditions
 pub mod Kept
 pub mod NoCircle
 pub mod Reaction
 pub mod Sent
+pub mod ShapedStart
 pub mod Sound
 pub mod Tracing
 pub mod Trees

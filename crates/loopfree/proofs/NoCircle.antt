@@ -21,7 +21,8 @@ use Rattle.rules.specs.Tracer.{circling, trace, hops}
 use Rattle.rules.proofs.Fit.{fit-network-of}
 use Rattle.loopfree.specs.Conditions.{isStart}
 use Rattle.loopfree.specs.Reached.{run, reached, Follows}
-use Rattle.loopfree.proofs.Conditions.{start-fit, start-holds}
+use Rattle.loopfree.proofs.InvariantOfConditions.{start-holds}
+use Rattle.loopfree.proofs.ShapedStart.{start-fit}
 use Rattle.loopfree.proofs.Following.{falls, distinct, few-units}
 use Rattle.loopfree.proofs.Invariant.{Holds, Any}
 use Rattle.loopfree.proofs.Kept.{keeps-run, reached-holds}

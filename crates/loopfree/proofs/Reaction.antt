@@ -23,7 +23,7 @@ use Rattle.rules.specs.Message.{Message, applied}
 use Rattle.rules.specs.Unit.{Unit, isNeighbour, awaits, isActive}
 use Rattle.rules.proofs.TreeEntries.{tree-short}
 use Rattle.loopfree.specs.Conditions.{acknowledgmentsIn}
-use Rattle.steps.proofs.Cases.{by-test}
+use Rattle.ground.proofs.Cases.{by-test}
 use Rattle.loopfree.proofs.Differences.{differences-carry, differences-change}
 use Rattle.loopfree.proofs.Exchange.{Line, oneIf, line-sent, line-kept}
 use Rattle.loopfree.proofs.Feasible.{passive-waits, lowered-same, tree-kept, tree-new, feasible-own, feasible-copied}

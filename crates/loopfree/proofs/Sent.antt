@@ -17,7 +17,7 @@ use Rattle.rules.specs.Event.{changed, isSentUpdate, differencesFor, newAwaited
 use Rattle.rules.specs.Message.{Message, acknowledgment, update, holdsUpdate}
 use Rattle.rules.specs.Unit.{Unit, isNeighbour}
 use Rattle.loopfree.specs.Conditions.{countIn, updatesIn, acknowledgmentsIn}
-use Rattle.steps.proofs.Cases.{by-test}
+use Rattle.ground.proofs.Cases.{by-test}
 use Rattle.loopfree.proofs.Exchange.{Telling, tells-none, oneIf}
 
 -- Every message of a list is from unit a.

@@ -17,7 +17,7 @@ use Rattle.rules.specs.Network.{Network, unitAt, successorsIn}
 use Rattle.rules.specs.Tracer.{Trace, Ending, arrived, stranded, circling, endsHere, goesOn, chosen, traceFrom, trace}
 use Rattle.rules.specs.Unit.{Unit, isSuccessor, successors}
 use Rattle.loopfree.specs.Reached.{Follows, starts, hop}
-use Rattle.steps.proofs.Cases.{by-test}
+use Rattle.ground.proofs.Cases.{by-test}
 use Rattle.loopfree.proofs.Following.{is-unit, few-units}
 use Rattle.loopfree.proofs.Invariant.{Holds, Any}
 

@@ -7,7 +7,7 @@ use Rattle.ground.proofs.Lists.{at-zeros}
 use Rattle.tree.specs.Tree.{distance}
 use Rattle.tree.proofs.Rooted.{within-far}
 use Rattle.tree.proofs.Tree.{distance-root, distance-none}
-use Rattle.steps.proofs.Cases.{by-equal}
+use Rattle.ground.proofs.Cases.{by-equal}
 
 -- In the empty tree every unit is as far as can be.
 pub zeros-furthest : (n root : ℕ) (tree : List ℕ) (j : ℕ) → distance n root tree j ≤ distance n root (zeros n) j

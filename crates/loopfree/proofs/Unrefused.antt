@@ -17,7 +17,7 @@ use Rattle.rules.specs.Message.{Message, holdsAcknowledgment, holdsUpdate, appl
 use Rattle.rules.specs.Network.{Network, unitAt, queue, isUp}
 use Rattle.loopfree.specs.Conditions.{countIn}
 use Rattle.rules.specs.Unit.{awaits}
-use Rattle.steps.proofs.Cases.{by-test}
+use Rattle.ground.proofs.Cases.{by-test}
 use Rattle.loopfree.proofs.Exchange.{one-of, only-update}
 use Rattle.loopfree.proofs.Invariant.{Direction, Holds, Any}
 use Rattle.loopfree.proofs.Sound.{Home}

@@ -3,23 +3,25 @@ use Prim.Native.Nat.{ℕ, _+_, _*_, _≤_, _<_}
 use native.Mathlib.Omega.{arith}
 use mathlib.Core.Bool.{Bool, true, false}
 use mathlib.Core.List.{List, [], _∷_, _++_}
-use mathlib.Core.Path.{_≡_, refl, ap, _∙_}
+use mathlib.Core.Path.{_≡_, refl, sym, ap, _∙_}
 use borrow.Author.Tests.{eqb-true, leb-true, lt-ltb, le-ltb}
 use lib.Dec.{eqb, ltb, leb}
 use lib.ListN.{length, set, drop, length-set}
 use lib.Seq.{paste, sets-eq, take-all, drop-drop}
 use Rattle.ground.specs.Limits.{unitLimit, entryLimit, legalCount, messageRoom}
-use Rattle.ground.specs.Refusal.{accepted}
+use Rattle.ground.specs.Refusal.{accepted, answerBase}
 use Rattle.rules.specs.Message.{Message, messageOf, readable, writeRefusal}
 use Rattle.ground.proofs.Tests.{both}
-use Rattle.rules.proofs.Written.{legal-of, readable-of}
-use Rattle.message.specs.Border.{taken, writeAnswer, leading, fieldPlaces, laidFields, readAnswer, fieldsAfter}
+use Rattle.rules.proofs.LegalMessages.{legal-of}
+use Rattle.rules.proofs.Written.{readable-of}
+use Rattle.message.specs.Border.{writeAnswer, leading, fieldPlaces, laidFields, readAnswer, fieldsAfter}
 use Rattle.message.specs.Reading.{acceptedReading, readingOf, numberOf as readingNumber}
 use Rattle.message.specs.Writing.{numberOf, writingOf}
 use Rattle.message.specs.declared.reader.Answer.the-variants.{Message as Accepted, Refused as Unread}
 use Rattle.message.specs.declared.reader.Reading.{Reading}
 use Rattle.message.specs.declared.writer.Written.the-variants.{Length, Refused}
 use Rattle.message.specs.declared.writer.Written.{Written}
+use Rattle.message.proofs.ReaderAnswers.{Taken, taken as was-taken, unread}
 use Rattle.message.proofs.Readings.{is-readable, not-readable}
 use Rattle.message.proofs.Writings.{writable}
 
@@ -44,6 +46,17 @@ written-short n m places offset {bytes} e = go (eqb (writeRefusal n m places off
         let z : _≡_ {A = ℕ} 0 1 = cc in
         absurd (omega arith)
 
+-- What the number is and how long the message, from the writer's answer.
+module _ (n : ℕ) (m : Message) (places offset : ℕ) {answer : Written} (told : answer ≡ writingOf n m places offset) where
+  pub short-by : {bytes : ℕ} → answer ≡ Length bytes → bytes ≤ messageRoom
+  short-by e = written-short n m places offset (sym told ∙ e)
+
+  pub refused-by : {number r : ℕ} → answer ≡ Refused number → r ≡ numberOf answer → r ≡ writeAnswer (writingOf n m places offset)
+  refused-by e h = refused-number e h ∙ ap writeAnswer told
+
+  pub length-by : {bytes : ℕ} → answer ≡ Length bytes → writeAnswer (Length bytes) ≡ writeAnswer (writingOf n m places offset)
+  length-by e = ap writeAnswer (sym e ∙ told)
+
 -- Three stores keep the length.
 pub stored-length : (kind sender entries : ℕ) (fields : List ℕ) → length (set (set (set fields 0 kind) 1 sender) 2 entries) ≡ length fields
 stored-length kind sender entries fields = simp length-set
@@ -63,8 +76,13 @@ module _ (kind sender entries : ℕ) (changes fields : List ℕ) (full : length 
 -- What a message that was found leaves: an answer that fits, and the table with the message's fields.
 pub record Found (n : ℕ) (bytes fields : List ℕ) (kind sender entries : ℕ) (changes : List ℕ) : Type 0 where
   pub few : entries ≤ entryLimit
-  pub answer : taken + entries ≡ readAnswer n bytes (length fields)
+  pub answer : answerBase + entries ≡ readAnswer n bytes (length fields)
   pub table : laidFields kind sender entries changes fields ≡ fieldsAfter n bytes fields
+
+pub found-all : {n : ℕ} {bytes fields : List ℕ} {kind sender entries : ℕ} {changes after : List ℕ}
+    → Found n bytes fields kind sender entries changes → after ≡ laidFields kind sender entries changes fields
+    → (answerBase + entries ≡ readAnswer n bytes (length fields)) × (after ≡ fieldsAfter n bytes fields)
+found-all f e = (f .answer, e ∙ f .table)
 
 -- What follows from the reader's answer, once the count is legal and the table has room.
 module _
@@ -81,40 +99,26 @@ module _
     pub found : {kind sender entries : ℕ} → reading .answer ≡ Accepted kind sender entries
         → Found n bytes fields kind sender entries (reading .changes)
     unfolding readAnswer fieldsAfter
-    found {kind} {sender} {entries} a = go (readable n bytes) refl
-      where
-        go : (t : Bool) → readable n bytes ≡ t → Found n bytes fields kind sender entries (reading .changes)
-        go true t =
-            let m = messageOf bytes in
-            let whole : reading ≡ acceptedReading m = read ∙ is-readable n bytes count t in
-            let answer : reading .answer ≡ Accepted (m .kind) (m .sender) (length (m .changes)) = rw whole in
-            let k : kind ≡ m .kind = cc in
-            let s : sender ≡ m .sender = cc in
-            let e : entries ≡ length (m .changes) = cc in
-            let legal = legal-of n m (readable-of n bytes t .legal) in
-            let most = leb-true n unitLimit (both (leb 2 n) (leb n unitLimit) count .1) in
-            record {
-              few = omega arith;
-              answer = rw (count, roomy, t, e);
-              table = rw (count, roomy, t, k, s, e, whole);
-            }
-        go false t =
-            let none : reading .answer ≡ Unread 9 = rw (read ∙ not-readable n bytes count t) in
-            let z : _≡_ {A = ℕ} 0 1 = cc in
-            absurd (omega arith)
+    found {kind} {sender} {entries} a =
+        let m = messageOf bytes in
+        let t : Taken n bytes kind sender entries (reading .changes) = was-taken n bytes reading count read a in
+        let whole : reading ≡ acceptedReading m = read ∙ is-readable n bytes count (t .legible) in
+        let e : entries ≡ length (m .changes) = t .long ∙ ap length (t .part) in
+        let legal = legal-of n m (readable-of n bytes (t .legible) .legal) in
+        let most = leb-true n unitLimit (both (leb 2 n) (leb n unitLimit) count .1) in
+        record {
+          few = omega arith;
+          answer = rw (count, roomy, t .legible, e);
+          table = rw (count, roomy, t .legible, t .of-kind, t .of-sender, e, whole);
+        }
 
     -- A refusal's number is passed on, and the table is as it came.
     pub not-found : {number r : ℕ} → reading .answer ≡ Unread number → r ≡ readingNumber (reading .answer)
         → (r ≡ readAnswer n bytes (length fields)) × (fields ≡ fieldsAfter n bytes fields)
     unfolding readAnswer fieldsAfter
-    not-found {number} {r} a h = go (readable n bytes) refl
-      where
-        go : (t : Bool) → readable n bytes ≡ t → (r ≡ readAnswer n bytes (length fields)) × (fields ≡ fieldsAfter n bytes fields)
-        go true t =
-            let some : reading .answer ≡ acceptedReading (messageOf bytes) .answer = rw (read ∙ is-readable n bytes count t) in
-            let z : _≡_ {A = ℕ} 0 1 = cc in
-            absurd (omega arith)
-        go false t = (h ∙ rw (read ∙ not-readable n bytes count t, count, roomy, t), rw (count, roomy, t))
+    not-found a h =
+        let t : readable n bytes ≡ false = unread n bytes reading count read a in
+        (h ∙ rw (read ∙ not-readable n bytes count t, count, roomy, t), rw (count, roomy, t))
 
 -- What is refused before the bytes are looked at: a count that is not legal, and then a table that is too short.
 module _ (n : ℕ) (bytes fields : List ℕ) where

@@ -23,7 +23,8 @@ use Rattle.ground.proofs.Filled.{filled-more, take-filled}
 use Rattle.ground.proofs.Parts.{to-end, put-to-end}
 use Rattle.ground.proofs.Refusal.{gives-none, otherwise-none}
 use Rattle.ground.proofs.Tests.{both, neither}
-use Rattle.rules.proofs.Written.{length-bodies, legal-of, written-length}
+use Rattle.rules.proofs.LegalMessages.{legal-of}
+use Rattle.rules.proofs.Written.{length-bodies, written-length}
 use Rattle.message.specs.Writing.{Fitting, laidAtStart, writingOf, frameAfter}
 use Rattle.message.specs.declared.writer.Written.the-variants.{Length, Refused}
 
@@ -186,3 +187,14 @@ module _ (n : ℕ) (m : Message) (frame : List ℕ) (offset : ℕ) where
       → (Length (4 + 4 * length (m .changes)) ≡ writingOf n m (length frame) offset) × (after ≡ frameAfter n m frame offset)
   unfolding writingOf frameAfter
   accepted-writing after e laid = (rw e, rw e laid)
+
+  -- The same from the number that was found, and from the part of the frame that was laid.
+  module _ {number : ℕ} (found : number ≡ writeRefusal n m (length frame) offset) (none : number ≡ accepted) where
+    pub writable-by : Writable m (length frame) offset
+    writable-by = writable n m (length frame) offset (sym found ∙ none)
+
+    pub laid-writing : {part : List ℕ} → part ≡ laidAtStart m (take (length frame - offset) (drop offset frame))
+        → (Length (4 + 4 * length (m .changes)) ≡ writingOf n m (length frame) offset)
+        × (putMid offset (length frame - offset) frame part ≡ frameAfter n m frame offset)
+    laid-writing e =
+        accepted-writing _ (sym found ∙ none) (ap (putMid offset (length frame - offset) frame) e ∙ laid-in-frame m frame offset)

@@ -6,19 +6,15 @@ use lib.Dec.{eqb, ltb}
 use lib.ListN.{length, drop}
 use Rattle.ground.specs.Choice.{if_then_else_}
 use Rattle.ground.specs.Limits.{entryLimit, legalCount}
-use Rattle.ground.specs.Refusal.{accepted, _gives_, _otherwise_}
+use Rattle.ground.specs.Refusal.{accepted, answerBase, _gives_, _otherwise_}
 use Rattle.ground.specs.Rows.{filled}
 use Rattle.rules.specs.Message.{Message, messageOf, readable}
 use Rattle.message.specs.declared.writer.Written.{Written}
 use Rattle.message.specs.declared.writer.Written.the-variants.{Length, Refused}
 
--- "An accepted event answers 100 plus the bytes used": so does the writer; the reader answers 100 plus the entries.
-abbrev pub taken : ℕ
-taken = 100
-
--- The number for each case of the writer's answer.
+-- The number for each case of the writer's answer: 100 plus the bytes used. The reader answers 100 plus the entries.
 abbrev pub writeAnswer : Written → ℕ
-writeAnswer (Length bytes) = taken + bytes
+writeAnswer (Length bytes) = answerBase + bytes
 writeAnswer (Refused number) = number
 
 -- The places that the fields of a message take: kind, sender, number of entries, and then the changes.
@@ -37,7 +33,7 @@ fieldsRefusal n bytes places =
 
 unfoldable pub readAnswer : (n : ℕ) (bytes : List ℕ) (places : ℕ) → ℕ
 readAnswer n bytes places =
-    if eqb (fieldsRefusal n bytes places) accepted then taken + length (messageOf bytes .changes) else fieldsRefusal n bytes places
+    if eqb (fieldsRefusal n bytes places) accepted then answerBase + length (messageOf bytes .changes) else fieldsRefusal n bytes places
 
 -- The fields at the start of a table, whose places after them stay.
 unfoldable pub laidFields : (kind sender entries : ℕ) (changes fields : List ℕ) → List ℕ

@@ -15,11 +15,9 @@ use crate::reader;
 use crate::reader::Answer;
 use crate::writer;
 use crate::writer::Written;
+use ground::ANSWERED;
 use ground::ENTRIES;
 use ground::UNITS;
-
-// What an accepted call answers before its length is added: above every refusal's number.
-const TAKEN: u32 = 100;
 
 // The places before the changes, for kind, sender and number of entries.
 const LEADING: usize = 3;
@@ -68,7 +66,7 @@ pub extern "C" fn message_write(
     let Written::Length(bytes) = answer else {
         return writing_number(answer);
     };
-    TAKEN + bytes as u32
+    ANSWERED + bytes as u32
 }
 
 // The fields, at the start of `fields`.
@@ -115,5 +113,5 @@ pub extern "C" fn message_read(count: u32, bytes: &[u8], fields: &mut [u32]) -> 
     let changes = reading.changes;
     let number = entries as u32;
     lay_fields(kind, sender, number, &changes, fields);
-    TAKEN + number
+    ANSWERED + number
 }

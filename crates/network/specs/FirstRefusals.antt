@@ -2,10 +2,9 @@
 use Prim.Native.Nat.{ℕ}
 use mathlib.Core.Bool.{Bool, not}
 use mathlib.Core.List.{List}
-use Rattle.ground.specs.Choice.{if_then_else_}
 use Rattle.ground.specs.Refusal.{_gives_, _otherwise_}
 use Rattle.ground.specs.Rows.{at}
-use Rattle.rules.specs.Network.{badEnds}
+use Rattle.rules.specs.Network.{badEnds, linkRefusal}
 use Rattle.rules.specs.Tables.{fitTables}
 use Rattle.fitness.specs.UnitTables.{isLinked}
 
@@ -14,14 +13,10 @@ abbrev pub endsRefusal : (words bytes : List ℕ) (a b : ℕ) → ℕ
 endsRefusal words bytes a b =
     not (fitTables words bytes) gives 2 otherwise badEnds (at words 0) a b gives 3
 
--- 5 of a call that opens a link that is up, 6 of another about one that is not.
-abbrev pub linkRefusal : (up opens : Bool) → ℕ
-linkRefusal up opens = if opens then up gives 5 else (not up) gives 6
-
--- Refusals 2 to 6 of a call about the link between a and b: whether its costs are legal, and whether it opens the link.
-abbrev pub firstRefusal : (words bytes : List ℕ) (a b : ℕ) (legal opens : Bool) → ℕ
-firstRefusal words bytes a b legal opens =
+-- Refusals 2 to 6 of a call about the link between a and b: whether its costs are legal, and whether it asks for the link.
+abbrev pub firstRefusal : (words bytes : List ℕ) (a b : ℕ) (legal asks : Bool) → ℕ
+firstRefusal words bytes a b legal asks =
     not (fitTables words bytes) gives 2
     otherwise badEnds (at words 0) a b gives 3
     otherwise not legal gives 4
-    otherwise linkRefusal (isLinked words a b) opens
+    otherwise linkRefusal (isLinked words a b) asks

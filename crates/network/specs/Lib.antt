@@ -1,4 +1,2 @@
--- What the network's code is made of beside its tables, queues and events: the refusals that come first, and what can be
--- asked.
-pub mod Asking
+-- What the network's code is made of beside its tables, queues and events: the refusals that come first.
 pub mod FirstRefusals

@@ -5,13 +5,15 @@ ghost use mathlib.Core.Path.{_≡_};
 ghost use Rattle.ground.specs.Limits.{legalCost};
 ghost use Rattle.rules.specs.Network.{up, cost, down, deliver, badEnds};
 ghost use Rattle.rules.specs.NetworkTable.{networkAnswer, wordsAfter, bytesAfter};
-ghost use Rattle.network.specs.FirstRefusals.{endsRefusal, linkRefusal, firstRefusal};
+ghost use Rattle.network.specs.FirstRefusals.{endsRefusal, firstRefusal};
 use events::happen;
 use events::tell;
 use fitness::fit;
 use fitness::tables;
+use ground::ANSWERED;
 use ground::is_legal_cost;
 use unit::calls::Call;
+use unit::refusing::link_refusal;
 
 fn are_bad_ends(count: u32, a: u32, b: u32) -> bool
     ensures { λ r. ⌜ r ≡ badEnds count a b ⌝ }
@@ -47,20 +49,9 @@ fn are_legal_costs(cost_of_a: u32, cost_of_b: u32) -> bool
     is_legal_cost(cost_of_b)
 }
 
-// Refusal 5 of a call that opens a link that is up, 6 of another about one that is not, or 0.
-fn link_refusal(up: bool, opens: bool) -> u32
-    ensures { λ r. ⌜ r ≡ linkRefusal up opens ⌝ }
-{
-    if opens {
-        if up { 5 } else { 0 }
-    } else {
-        if up { 0 } else { 6 }
-    }
-}
-
-// Refusals 2 to 6 of a call about the link between a and b, or 0: whether its costs are legal, and whether it opens the link.
-fn first_refusal(words: &[u32], queues: &[u8], a: u32, b: u32, legal: bool, opens: bool) -> u32
-    ensures { λ r. ⌜ r ≡ firstRefusal (now (words .entry)) (now (queues .entry)) a b legal opens ⌝ }
+// Refusals 2 to 6 of a call about the link between a and b, or 0: whether its costs are legal, and whether it asks for the link.
+fn first_refusal(words: &[u32], queues: &[u8], a: u32, b: u32, legal: bool, asks: bool) -> u32
+    ensures { λ r. ⌜ r ≡ firstRefusal (now (words .entry)) (now (queues .entry)) a b legal asks ⌝ }
 {
     let number = ends_refusal(words, queues, a, b);
     if number != 0 {
@@ -69,7 +60,7 @@ fn first_refusal(words: &[u32], queues: &[u8], a: u32, b: u32, legal: bool, open
     if !legal {
         return 4;
     }
-    link_refusal(tables::is_linked(words, a as usize, b as usize), opens)
+    link_refusal(tables::is_linked(words, a as usize, b as usize), asks)
 }
 
 // The link between a and b comes up, at one cost from a to b and another from b to a: an event at each end.
@@ -163,7 +154,7 @@ pub extern "C" fn network_deliver(words: &mut [u32], queues: &mut [u8], a: u32, 
         return number;
     }
     let told = tell::tell_first(words, queues, a, b);
-    if told.answer < 100 {
+    if told.answer < ANSWERED {
         return told.answer;
     }
     happen::at_one(words, queues, a, b, told, true)

@@ -4,7 +4,7 @@
 // (docs/TABLES.md has both index rules). Every call first tests the whole of both (`fitness`), then its arguments. A unit's
 // event happens on a copy of its table; only when every message finds room in its queue are the copies and the messages put
 // where they belong (`events`), so a refusal leaves both tables as they came. `calls` has link up, cost, link down and
-// delivery, `questions` the fresh network and what can be asked: these two are all that others see, in C too.
+// delivery, `questions` the fresh network and what can be asked (`asking`): these two are all that others see, in C too.
 pub mod calls;
 mod fresh;
 pub mod questions;

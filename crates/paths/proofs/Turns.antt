@@ -20,8 +20,8 @@ use Rattle.rules.specs.Tracer.{Trace, Ending, arrived, stranded, circling, ends
 use Rattle.rules.specs.Tracer.{pathLaid}
 use Rattle.rules.specs.Unit.{isSuccessor, successors, successorSet}
 use Rattle.rules.proofs.Fit.{fit-tables-of, fit-network-shaped}
-use Rattle.rules.proofs.Laid.{ShapedNetwork, unit-part, network-lays-back}
-use Rattle.state.proofs.Answers.{set-at-place}
+use Rattle.rules.proofs.LaidNetwork.{ShapedNetwork, unit-part, network-lays-back}
+use Rattle.state.proofs.QuestionAnswers.{set-at-place}
 use Rattle.paths.specs.Tracing.{unitsIn, endedAs, tracedAs, Traceable, EndsAs, LaysPath}
 use Rattle.paths.proofs.Sets.{units-of-bits, none-alike, rising-under}
 

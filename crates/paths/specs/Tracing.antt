@@ -1,11 +1,11 @@
 -- The tracer over tables: a set of successors as the units in it, and the answer as an enum with its numbers.
-use Prim.Native.Nat.{ℕ, _+_, _≤_, _<_}
+use Prim.Native.Nat.{ℕ, _+_, _*_, _≤_, _<_}
 use mathlib.Core.Bool.{true}
 use mathlib.Core.List.{List}
 use mathlib.Core.Path.{_≡_}
 use lib.Dec.{eqb}
 use Rattle.ground.specs.Choice.{if_then_else_}
-use Rattle.ground.specs.Refusal.{accepted}
+use Rattle.ground.specs.Refusal.{accepted, answerBase}
 use Rattle.ground.specs.Rows.{at, rising, isIn}
 use Rattle.rules.specs.NetworkTable.{traceTableRefusal}
 use Rattle.rules.specs.Tables.{networkFrom, fitTables}
@@ -34,11 +34,14 @@ traceAnswer words bytes start destination choices path =
     else Refused (traceTableRefusal words bytes start destination choices path)
 
 -- The number that stands for an answer: a refusal's own, below 100; 100 and the hops for arrived, 200 and the hops for
--- stranded, 300 and the hops for circling.
+-- stranded, 300 and the hops for circling; so each is below 400.
+abbrev pub highestAnswer : ℕ
+highestAnswer = 4 * answerBase
+
 abbrev pub traceNumber : Traced → ℕ
-traceNumber (Arrived hops) = 100 + hops
-traceNumber (Stranded hops) = 200 + hops
-traceNumber (Circling hops) = 300 + hops
+traceNumber (Arrived hops) = answerBase + hops
+traceNumber (Stranded hops) = 2 * answerBase + hops
+traceNumber (Circling hops) = 3 * answerBase + hops
 traceNumber (Refused number) = number
 
 -- What a path is followed over: tables that are fit with some queues, two units of theirs, and room.

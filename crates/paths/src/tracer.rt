@@ -7,8 +7,9 @@ ghost use Rattle.ground.specs.Limits.{unitLimit};
 ghost use Rattle.ground.specs.Rows.{at};
 ghost use Rattle.rules.specs.NetworkTable.{traceTableRefusal, pathAfter};
 ghost use Rattle.rules.specs.Tracer.{chosen as chosenFrom};
-ghost use Rattle.paths.specs.Tracing.{unitsIn, Traceable, EndsAs, LaysPath, traceAnswer, traceNumber};
+ghost use Rattle.paths.specs.Tracing.{unitsIn, Traceable, EndsAs, LaysPath, traceAnswer, traceNumber, highestAnswer};
 use fitness::fit;
+use ground::ANSWERED;
 use ground::UNIT_WORDS;
 use state::held::SUCCESSORS;
 
@@ -148,15 +149,20 @@ pub fn trace(
     follow(words, start as usize, destination as usize, choices, path)
 }
 
+// What answers of a trace that does not arrive begin at.
+const STRANDED: u32 = 2 * ANSWERED;
+
+const CIRCLING: u32 = 3 * ANSWERED;
+
 // The number of an answer: 100 plus the hops for arrived, 200 plus the hops for stranded, 300 plus the hops for circling.
 fn number_of(answer: Traced) -> u32
-    requires { ⌜ traceNumber answer ≤ 400 ⌝ }
+    requires { ⌜ traceNumber answer ≤ highestAnswer ⌝ }
     ensures { λ r. ⌜ r ≡ traceNumber answer ⌝ }
 {
     match answer {
-        Traced::Arrived(hops) => 100 + hops as u32,
-        Traced::Stranded(hops) => 200 + hops as u32,
-        Traced::Circling(hops) => 300 + hops as u32,
+        Traced::Arrived(hops) => ANSWERED + hops as u32,
+        Traced::Stranded(hops) => STRANDED + hops as u32,
+        Traced::Circling(hops) => CIRCLING + hops as u32,
         Traced::Refused(number) => number,
     }
 }

@@ -16,7 +16,6 @@ use libc::STDIN_FILENO;
 use libc::STDOUT_FILENO;
 use script::answer;
 use script::answer::ANSWER_ROOM;
-use script::answer::ANSWERED;
 
 const LINE_ROOM: usize = 64;
 
@@ -149,21 +148,6 @@ fn step(line: &mut [u8], input: &mut [u8], out: &[u8], progress: Progress) -> Pr
     refill(input, taken.held, out, used)
 }
 
-// Where an answer ends that begins at `used` and has that number, ANSWERED plus its bytes; at the end at the latest.
-fn end_of(used: usize, number: u32, room: usize) -> usize
-    requires { ⌜ used ≤ room ⌝ }
-    ensures { λ r. ⌜ r ≤ room ⌝ }
-{
-    if number < ANSWERED {
-        return used;
-    }
-    let bytes = (number - ANSWERED) as usize;
-    if room - used < bytes {
-        return room;
-    }
-    used + bytes
-}
-
 // A line is answered: the next one begins. The answers are written if they take more than half of their room, or if there is
 // no going on.
 fn settle(progress: Progress, out: &[u8], all: usize) -> Progress
@@ -213,9 +197,7 @@ fn say(
         return progress;
     }
     let held = progress.held;
-    let used = progress.used;
-    let number = answer::answer(words, queues, &line[..held], &mut out[used..]);
-    let all = end_of(used, number, out.len());
+    let all = answer::answer(words, queues, &line[..held], out, progress.used);
     settle(progress, out, all)
 }
 

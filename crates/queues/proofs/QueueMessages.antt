@@ -16,9 +16,10 @@ use Rattle.ground.proofs.Lists.{joined-append, map-length}
 use Rattle.ground.proofs.Places.{filled-behind}
 use Rattle.ground.proofs.Rows.{length-tab}
 use Rattle.rules.proofs.Laid.{ShapedQueue, queue-reads-back, noMessage, messageAt}
-use Rattle.rules.proofs.Written.{Legal, written-length}
+use Rattle.rules.proofs.LegalMessages.{Legal}
+use Rattle.rules.proofs.Written.{written-length}
 use Rattle.queues.specs.Queue.{heldIn, poppedOf, appendedOf}
-use Rattle.queues.proofs.Overlaid.{filled-inner, paste-filled, laid-fits}
+use Rattle.slices.proofs.Overlaid.{filled-inner, paste-filled, laid-fits}
 
 -- Bytes hold as many messages as are read from them.
 pub held-from : (bytes : List ℕ) → heldIn bytes ≡ length (queueFrom bytes)

@@ -15,8 +15,8 @@ use Rattle.ground.proofs.Rows.{lowest-le}
 use Rattle.ground.proofs.Tests.{both-of, if-true, if-false}
 use Rattle.rules.specs.Tables.{part, queueBytes, networkBytes, queueAt}
 use Rattle.queues.specs.Queue.{hasQueue, queueOf, withBytes, heldIn}
-use Rattle.queues.specs.Slices.{laidOver}
-use Rattle.queues.proofs.Stretches.{copied, replaced}
+use Rattle.slices.specs.Slices.{laidOver}
+use Rattle.slices.proofs.Stretches.{copied, replaced}
 
 -- A queue holds at most queueRoom messages.
 pub held-most : (queue : List ℕ) → heldIn queue ≤ queueRoom

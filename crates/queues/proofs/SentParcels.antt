@@ -6,7 +6,7 @@ use mathlib.Core.Logic.{_⊎_, inl, inr, ⊎-elim}
 use mathlib.Core.Path.{_≡_, refl, sym, ap, _∙_}
 use lib.ListN.{length, getD, drop, length-append, List·getD-append, drop-of-length-le}
 use lib.Seq.{drop-cons, drop-append-seam, drop-drop, take-at}
-use Rattle.ground.specs.Limits.{unitLimit, messageRoom}
+use Rattle.ground.specs.Limits.{unitLimit}
 use Rattle.ground.specs.Rows.{at, tab, joined}
 use Rattle.rules.specs.Event.{Reaction}
 use Rattle.rules.specs.Hub.{outgoingTo, outgoing}
@@ -14,7 +14,8 @@ use Rattle.rules.specs.Message.{Message, written}
 use Rattle.ground.proofs.Joined.{joined-suc}
 use Rattle.ground.proofs.Lists.{at-from}
 use Rattle.ground.proofs.Rows.{length-tab, tab-at}
-use Rattle.rules.proofs.Written.{Legal, written-length}
+use Rattle.rules.proofs.LegalMessages.{Legal}
+use Rattle.rules.proofs.Written.{written-length}
 use Rattle.queues.specs.Parcels.{parcelLength, parcelAt, parcelsTo, messageFor}
 use Rattle.queues.proofs.OneParcel.{past-used, to-other, whole-parcel}
 use Rattle.queues.proofs.QueueMessages.{message-short}

@@ -1,5 +1,4 @@
--- What the queues' code is made of: bytes laid over others, one queue among the bytes of all, and the messages of an event
--- on their way from the buffer to the queues.
+-- What the queues' code is made of: one queue among the bytes of all, and the messages of an event on their way from the
+-- buffer to the queues.
 pub mod Parcels
 pub mod Queue
-pub mod Slices

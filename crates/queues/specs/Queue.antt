@@ -10,7 +10,7 @@ use Rattle.ground.specs.Choice.{if_then_else_}
 use Rattle.ground.specs.Limits.{unitLimit, queueRoom, messageRoom}
 use Rattle.ground.specs.Rows.{at, zeros, filled, lowest}
 use Rattle.rules.specs.Tables.{part, queueBytes, networkBytes, queueAt}
-use Rattle.queues.specs.Slices.{laidOver}
+use Rattle.slices.specs.Slices.{laidOver}
 
 -- Whether bytes are those of all queues, and one of these leads from a to b.
 unfoldable pub hasQueue : (bytes : List ℕ) (a b : ℕ) → Bool

@@ -6,12 +6,12 @@ ghost use Rattle.ground.specs.Limits.{unitLimit};
 ghost use Rattle.ground.specs.Rows.{zeros};
 ghost use Rattle.rules.specs.Tables.{queueBytes, queueAt};
 ghost use Rattle.queues.specs.Queue.{hasQueue, queueOf, withBytes, heldIn, poppedOf, appendedOf};
-use crate::slices;
 use ground::MESSAGE_ROOM;
 use ground::NETWORK_BYTES;
 use ground::QUEUE_BYTES;
 use ground::QUEUE_ROOM;
 use ground::UNITS;
+use slices::bytes;
 
 // A number of units, no more than there may be.
 fn at_most_all(i: usize) -> usize
@@ -49,7 +49,7 @@ pub fn load(queues: &[u8], a: usize, b: usize) -> [u8; QUEUE_BYTES]
         return queue;
     }
     let from = begins(a, b);
-    slices::lay_over(&mut queue, 0, &queues[from..from + QUEUE_BYTES]);
+    bytes::lay_over(&mut queue, 0, &queues[from..from + QUEUE_BYTES]);
     queue
 }
 
@@ -60,7 +60,7 @@ pub(crate) fn put(queues: &mut [u8], a: usize, b: usize, queue: [u8; QUEUE_BYTES
     if !has_queue(queues, a, b) {
         return;
     }
-    slices::lay_over(queues, begins(a, b), &queue);
+    bytes::lay_over(queues, begins(a, b), &queue);
 }
 
 // The messages that a queue holds. A place past the end of its bytes is free.
@@ -86,7 +86,7 @@ fn popped(queue: [u8; QUEUE_BYTES]) -> [u8; QUEUE_BYTES]
     ensures { λ r. ⌜ r ≡ poppedOf queue ⌝ }
 {
     let mut after = [0u8; QUEUE_BYTES];
-    slices::lay_over(&mut after, 0, &queue[MESSAGE_ROOM..]);
+    bytes::lay_over(&mut after, 0, &queue[MESSAGE_ROOM..]);
     after
 }
 
@@ -95,7 +95,7 @@ pub(crate) fn appended(queue: [u8; QUEUE_BYTES], message: &[u8]) -> [u8; QUEUE_B
     ensures { λ r. ⌜ r ≡ appendedOf queue (now (message .entry)) ⌝ }
 {
     let mut after = queue;
-    slices::lay_over(&mut after, held(&queue) * MESSAGE_ROOM, message);
+    bytes::lay_over(&mut after, held(&queue) * MESSAGE_ROOM, message);
     after
 }
 

@@ -20,7 +20,7 @@ use Rattle.tree.proofs.ByPlace.{SameLinks, SamePlaces, preferred-same, taken-sa
 use Rattle.tree.proofs.Cells.{cell-at, preferred-most, takenCell, taken-at, taken-is}
 use Rattle.tree.proofs.Shortest.{Links, ShortestFacts, shortest-facts}
 use Rattle.tree.proofs.Taken.{preferredBy, takenBy, taken-positive, taken-legal}
-use Rattle.tree.proofs.Tree.{LegalLinks}
+use Rattle.tree.proofs.ShortestTree.{LegalLinks}
 use Rattle.recomputing.specs.Flat.{copiesIn, isWhole}
 use Rattle.recomputing.specs.Legal.{legalLink, legalTaken, recomputedFrom, LegalCosts, LegalCopies}
 

@@ -5,6 +5,7 @@ ghost use Rattle.recomputing.specs.Flat.{rowIn, withRow, distancesIn};
 use crate::heads;
 use ground::COPIES;
 use ground::UNITS;
+use slices::numbers;
 
 // The copy of unit k's tree.
 pub fn copy_of(copies: &[u32], k: usize) -> [u32; UNITS]
@@ -18,11 +19,7 @@ pub fn copy_of(copies: &[u32], k: usize) -> [u32; UNITS]
         return row;
     }
     let from = k * UNITS;
-    let mut j = 0;
-    while j < UNITS {
-        row[j] = copies[from + j];
-        j += 1;
-    }
+    numbers::lay_over(&mut row, 0, &copies[from..from + UNITS]);
     row
 }
 
@@ -30,17 +27,12 @@ pub fn copy_of(copies: &[u32], k: usize) -> [u32; UNITS]
 pub fn with_copy(copies: [u32; COPIES], k: usize, row: [u32; UNITS]) -> [u32; COPIES]
     ensures { λ r. ⌜ r ≡ withRow copies k row ⌝ }
 {
-    let mut numbers = copies;
+    let mut after = copies;
     if UNITS <= k {
-        return numbers;
+        return after;
     }
-    let from = k * UNITS;
-    let mut j = 0;
-    while j < UNITS {
-        numbers[from + j] = row[j];
-        j += 1;
-    }
-    numbers
+    numbers::lay_over(&mut after, k * UNITS, &row);
+    after
 }
 
 // The distances in unit k's copy, in which k is the root, of the units below the count.

@@ -5,7 +5,7 @@ ghost use Rattle.ground.specs.Limits.{unitLimit};
 ghost use Rattle.ground.specs.Rows.{at, filled};
 ghost use Rattle.tree.specs.Recompute.{treeOver};
 ghost use Rattle.tree.proofs.Shortest.{Links, ShortestFacts};
-ghost use Rattle.tree.proofs.Tree.{LegalLinks};
+ghost use Rattle.tree.proofs.ShortestTree.{LegalLinks};
 ghost use Rattle.recomputing.specs.Legal.{recomputedFrom};
 use crate::heads;
 use crate::links;

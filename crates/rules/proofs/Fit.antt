@@ -1,26 +1,25 @@
 -- What the fitness tests say, taken apart, and that the states of fit tables are shaped: so each is read back from what it
 -- lays out.
 use Prim.Native.Nat.{ℕ, _*_, _≤_, _<_}
-use native.Mathlib.Nat.{add-zero}
 use native.Mathlib.Omega.{arith}
 use mathlib.Core.Bool.{Bool, true, false, _&&_, Bool·beq, false≢true}
 use mathlib.Core.List.{List, []}
 use mathlib.Core.Path.{_≡_, refl, sym, ap, _∙_}
 use lib.Dec.{eqb}
-use lib.ListN.{length, drop}
-use lib.Seq.{getD-drop}
+use lib.ListN.{length}
 use borrow.Author.Tests.{leb-true, eqb-true}
 use Rattle.ground.specs.Limits.{unitLimit, queueRoom}
 use Rattle.ground.specs.Rows.{at, tab, every}
 use Rattle.ground.proofs.Lists.{parts}
 use Rattle.ground.proofs.Rows.{length-tab, tab-at, every-at}
 use Rattle.rules.specs.Message.{Message}
-use Rattle.rules.specs.Network.{Network, unitAt, queue, isUp, nextMessage, fitQueued, fitQueue, fitNetwork}
+use Rattle.rules.specs.Network.{Network, unitAt, queue, isUp, fitQueue, fitNetwork}
 use Rattle.rules.specs.Tables.{unitWords, part, unitFrom, fitUnitTable, queueBytes, queueFrom}
 use Rattle.rules.specs.Tables.{networkWords, queueAt, networkFrom, fitTables}
 use Rattle.rules.specs.Unit.{freshUnit, fitUnit}
-use Rattle.rules.proofs.Laid.{ShapedUnit, unit-shaped, part-length, ShapedQueue, ShapedNetwork}
-use Rattle.rules.proofs.Written.{legal-of}
+use Rattle.rules.proofs.Laid.{ShapedUnit, unit-shaped, part-length, ShapedQueue}
+use Rattle.rules.proofs.LaidNetwork.{ShapedNetwork}
+use Rattle.rules.proofs.QueuedMessages.{proper-shaped, queue-proper}
 
 -- The unit of a fit table is shaped.
 pub fit-unit-shaped : (words : List ℕ) → fitUnitTable words ≡ true → ShapedUnit (unitFrom words)
@@ -83,18 +82,11 @@ module _ (net : Network) (e : fitNetwork net ≡ true) where
 
 -- A fit queue is shaped.
 pub fit-queue-shaped : (net : Network) (a b : ℕ) → fitQueue net a b ≡ true → ShapedQueue (net .count) (queue net a b)
-unfolding fitQueue fitQueued
+unfolding fitQueue
 fit-queue-shaped net a b e =
-    let q = queue net a b in
-    let messages : every (length q) (λ i. fitQueued (net .count) a (nextMessage (drop i q))) ≡ true = search parts in
-    record {
-      room = leb-true (length q) queueRoom (search parts);
-      each =
-          λ i l.
-          let fit : fitQueued (net .count) a (nextMessage (drop i q)) ≡ true =
-          every-at (length q) (λ j. fitQueued (net .count) a (nextMessage (drop j q))) messages i l in
-          rw (getD-drop, add-zero) at (legal-of (net .count) (nextMessage (drop i q)) (search parts));
-    }
+    proper-shaped (net .count) a (queue net a b)
+    (leb-true (length (queue net a b)) queueRoom (search parts))
+    (queue-proper net a b e)
 
 module _ (words bytes : List ℕ) (e : fitTables words bytes ≡ true) where
   -- The network of fit tables is fit.

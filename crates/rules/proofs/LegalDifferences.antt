@@ -21,7 +21,7 @@ use Rattle.ground.proofs.Tests.{if-true, equal-or-not}
 use Rattle.rules.specs.Message.{acknowledgment, update, change, unitOf, bodyOf, bodyFor, removed, differences, legalChanges, legalMessage}
 use Rattle.rules.proofs.Differences.{changeOf, differences-joined, one-change}
 use Rattle.rules.proofs.TreeEntries.{TreeEntry, tree-entry, tree-root, tree-short}
-use Rattle.rules.proofs.Written.{LegalSetting, LegalChange, of-changes, of-legal}
+use Rattle.rules.proofs.LegalMessages.{LegalSetting, LegalChange, of-changes, of-legal}
 
 -- Legal changes of units below j.
 record Told (n sender : ℕ) (changes : List ℕ) (j : ℕ) : Type 0 where

@@ -5,8 +5,11 @@ pub mod Figures
 pub mod Fit
 pub mod FitUnit
 pub mod Laid
+pub mod LaidNetwork
 pub mod LegalDifferences
+pub mod LegalMessages
 pub mod Noted
+pub mod QueuedMessages
 pub mod Reacting
 pub mod TreeEntries
 pub mod Words

@@ -1,12 +1,12 @@
 -- One unit as hub firmware uses it: calls with numbers and bytes, and the messages of an event in a lent buffer.
 use Prim.Native.Nat.{ℕ, _+_}
-use mathlib.Core.Bool.{Bool, not, _&&_, _||_}
+use mathlib.Core.Bool.{Bool, not, _&&_}
 use mathlib.Core.List.{List, [], _∷_, _++_}
 use lib.Dec.{eqb, ltb}
 use lib.ListN.{length, getD, drop}
 use Rattle.ground.specs.Choice.{if_then_else_}
 use Rattle.ground.specs.Limits.{legalCount, legalCost, firmwareRoom, far}
-use Rattle.ground.specs.Refusal.{accepted, _gives_, _otherwise_}
+use Rattle.ground.specs.Refusal.{accepted, _gives_, _otherwise_, answerBase}
 use Rattle.ground.specs.Rows.{at, tab, joined}
 use Rattle.rules.specs.Event.{Event, received, linkUp, newCost, linkDown, Reaction, reaction, messageRefusal}
 use Rattle.rules.specs.Message.{Message, written, messageOf, readable}
@@ -68,7 +68,7 @@ outgoingLaid r buffer = outgoing r ++ drop (length (outgoing r)) buffer
 
 -- "An accepted event answers 100 plus the bytes used."
 abbrev pub hubAnswer : (refusal : ℕ) (value : ℕ) → ℕ
-hubAnswer refusal value = if eqb refusal accepted then 100 + value else refusal
+hubAnswer refusal value = if eqb refusal accepted then answerBase + value else refusal
 
 -- The fresh unit refuses 1 (count), 2 (length) and 3 (its own number); a question 2 and 3.
 abbrev pub hubFreshRefusal : (n me : ℕ) (rightLength : Bool) → ℕ
@@ -110,7 +110,7 @@ freshTable words n me =
 -- Questions to a table, which change nothing: 2, then 3 for a destination that is no unit, else 100 plus the value, and the
 -- largest number for unreachable.
 abbrev pub reachable : (distance : ℕ) → ℕ
-reachable distance = if eqb distance far then far else 100 + distance
+reachable distance = if eqb distance far then far else answerBase + distance
 
 unfoldable pub activeAnswer : (words : List ℕ) → ℕ
 activeAnswer words = hubAnswer (not (fitUnitTable words) gives 2) (if isActive (unitFrom words) then 1 else 0)

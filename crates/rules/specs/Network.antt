@@ -100,6 +100,11 @@ outcome net (deliver a b) =
 unfoldable pub badEnds : (n a b : ℕ) → Bool
 badEnds n a b = not (ltb a n) || not (ltb b n) || eqb a b
 
+-- 5: "link up asked, already up"; 6: "cost, down, delivery or message for a link not up". A call asks for a link, or is
+-- about one that should be up.
+abbrev pub linkRefusal : (linked asks : Bool) → ℕ
+linkRefusal linked asks = if asks then linked gives 5 else (not linked) gives 6
+
 -- 13: "some queue would pass 4 messages"
 unfoldable pub overflows : Network → Bool
 overflows net =

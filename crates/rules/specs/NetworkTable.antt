@@ -1,7 +1,7 @@
 -- The network's calls and questions over its tables: numbers for the units, bytes for the queues. A refusal, below 100,
 -- changes nothing; an accepted call answers 100, a question 100 plus the value, and the largest number for unreachable.
-use Prim.Native.Nat.{ℕ, _+_}
-use mathlib.Core.Bool.{Bool, not, _&&_, _||_}
+use Prim.Native.Nat.{ℕ}
+use mathlib.Core.Bool.{not, _&&_}
 use mathlib.Core.List.{List}
 use lib.Dec.{eqb, ltb}
 use lib.ListN.{length}
@@ -9,9 +9,9 @@ use Rattle.ground.specs.Choice.{if_then_else_}
 use Rattle.ground.specs.Refusal.{accepted, _gives_, _otherwise_}
 use Rattle.ground.specs.Rows.{at}
 use Rattle.rules.specs.Hub.{hubAnswer, reachable}
-use Rattle.rules.specs.Network.{Network, Call, unitAt, fresh, freshRefusal, outcome, callRefusal}
+use Rattle.rules.specs.Network.{Call, unitAt, fresh, freshRefusal, outcome, callRefusal}
 use Rattle.rules.specs.Tables.{networkWords, networkBytes, laidUnits, laidQueues, networkFrom, fitTables}
-use Rattle.rules.specs.Tracer.{Trace, trace, pathLaid, traceRefusal}
+use Rattle.rules.specs.Tracer.{trace, pathLaid, traceRefusal}
 use Rattle.rules.specs.Unit.{isActive, ownDistance, successorSet}
 
 -- 2 first, then the others.

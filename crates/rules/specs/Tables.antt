@@ -5,7 +5,7 @@ use Prim.Native.Nat.{ℕ, _+_, _*_, _/_, _%_}
 use mathlib.Core.Bool.{Bool, _&&_}
 use mathlib.Core.List.{List, [], _∷_, _++_, map}
 use lib.Dec.{eqb}
-use lib.ListN.{length, getD, take, drop}
+use lib.ListN.{length, take, drop}
 use Rattle.ground.specs.Limits.{unitLimit, queueRoom, messageRoom}
 use Rattle.ground.specs.Rows.{at, tab, lowest, same, joined, filled}
 use Rattle.rules.specs.Message.{Message, written, messageOf}

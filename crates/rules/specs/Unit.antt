@@ -1,9 +1,8 @@
 -- A unit's tables, and what can be asked of them. Rows have a place for each unit below the count.
 use Prim.Native.Nat.{ℕ}
 use mathlib.Core.Bool.{Bool, not, _&&_, _||_}
-use mathlib.Core.List.{List, []}
+use mathlib.Core.List.{List}
 use lib.Dec.{eqb, ltb, leb}
-use lib.ListN.{length, getD}
 use Rattle.ground.specs.Choice.{if_then_else_}
 use Rattle.ground.specs.Limits.{far, longest, legalCount, legalCost}
 use Rattle.ground.specs.Rows.{at, tab, zeros, every, some, bits, rising, same}

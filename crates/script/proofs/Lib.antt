@@ -1,5 +1,4 @@
 -- Laws of the script language, and the proofs of its functions.
 pub mod ReadBack
 pub mod Room
-pub mod ShownUnits
 pub mod Verdicts

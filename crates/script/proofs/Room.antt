@@ -1,16 +1,16 @@
--- What a line prints has room where the buffer has that of every answer, and so is laid there.
+-- What a line prints has room where the buffer has that of every answer left, and so is laid there.
 use Prim.Native.Nat.{ℕ, _+_, _*_, _≤_, _<_}
 use native.Mathlib.Nat.{le-refl}
 use native.Mathlib.Omega.{arith}
 use mathlib.Core.Bool.{true}
 use mathlib.Core.List.{List, []}
 use mathlib.Core.Path.{_≡_, refl}
-use borrow.Author.Tests.{eq-eqb, le-ltb}
+use borrow.Author.Tests.{eq-eqb}
 use lib.Dec.{eqb}
 use lib.ListN.{length, length-append}
 use Rattle.ground.specs.Limits.{unitLimit}
 use Rattle.ground.specs.Refusal.{accepted}
-use Rattle.ground.specs.Rows.{at, tab, joined}
+use Rattle.ground.specs.Rows.{at, tab, joined, laidAfter}
 use Rattle.ground.proofs.Choices.{by-choice}
 use Rattle.ground.proofs.Joined.{joined-most, joined-skip}
 use Rattle.rules.specs.Network.{unitAt, up, cost, down, deliver}
@@ -22,12 +22,12 @@ use Rattle.lines.specs.Commands.{commandOf}
 use Rattle.lines.specs.declared.Command.{Command}
 use Rattle.lines.specs.declared.Command.the-variants.{Units, Up, Cost, Down, Deliver, Show, Bad}
 use Rattle.texts.specs.Printed.{okLine, refusedLine, stateLine, lineRoom}
-use Rattle.texts.specs.Putting.{usedAfter, putAfter}
+use Rattle.slices.specs.Putting.{usedAfter, putAfter}
 use Rattle.texts.proofs.Lengths.{state-most, pair-most, refused-most}
-use Rattle.texts.proofs.Putting.{put-laid}
-use Rattle.script.specs.Answers.{verdict, pairLines, unitLines, shown, printed, wordsThen, bytesThen, answerRoom, answerBase}
-use Rattle.script.specs.Answers.{answerNumber, outAfter, wordsAfterLine, bytesAfterLine}
-use Rattle.script.proofs.ShownUnits.{lineTo}
+use Rattle.slices.proofs.Putting.{put-laid}
+use Rattle.listing.specs.Shown.{pairLines, unitLines, shown, showText}
+use Rattle.listing.proofs.ShownUnits.{lineTo}
+use Rattle.script.specs.Answers.{verdict, printed, answerText, answerRoom}
 
 -- A unit's lines are no more than a line for each unit: the line of its state stands for that of the way to itself.
 lines-most : (u : Unit) (i : ℕ) → i < u .count → u .count ≤ unitLimit → length (unitLines i u) ≤ unitLimit * lineRoom
@@ -63,6 +63,15 @@ shown-most words bytes fit =
           (net .count) (le-refl (net .count)),
     )
 
+-- What `show` prints.
+show-most : (words bytes : List ℕ) → length (showText words bytes) ≤ answerRoom
+unfolding showText
+show-most words bytes =
+    by-choice (λ (text : List ℕ). length text ≤ answerRoom) (fitTables words bytes) (shown (networkFrom words bytes))
+    (refusedLine 2)
+    (shown-most words bytes)
+    (λ unfit. omega (arith, refused-most 2))
+
 -- The verdict of a call.
 verdict-most : (refusal : ℕ) → length (verdict refusal) ≤ answerRoom
 verdict-most refusal =
@@ -78,25 +87,12 @@ printed-most words bytes (Up a b ca cb) = verdict-most (networkRefusal words byt
 printed-most words bytes (Cost a b c) = verdict-most (networkRefusal words bytes (cost a b c))
 printed-most words bytes (Down a b) = verdict-most (networkRefusal words bytes (down a b))
 printed-most words bytes (Deliver a b) = verdict-most (networkRefusal words bytes (deliver a b))
-printed-most words bytes Show =
-    by-choice (λ (text : List ℕ). length text ≤ answerRoom) (fitTables words bytes) (shown (networkFrom words bytes))
-    (refusedLine 2)
-    (shown-most words bytes)
-    (λ unfit. omega (arith, refused-most 2))
+printed-most words bytes Show = show-most words bytes
 printed-most words bytes Bad = omega arith
 
--- What is done and put for the command of a line, in a buffer that has room, is the answer.
-pub answered : (words bytes line out : List ℕ) {command : Command} {used : ℕ} {out′ words′ bytes′ : List ℕ}
-    → answerRoom ≤ length out → command ≡ commandOf line
-    → (used ≡ usedAfter 0 (printed words bytes command) out)
-    × ((out′ ≡ putAfter 0 (printed words bytes command) out)
-    × ((words′ ≡ wordsThen words bytes command) × (bytes′ ≡ bytesThen words bytes command)))
-    → (answerBase + used ≡ answerNumber words bytes line out)
-    × ((words′ ≡ wordsAfterLine words bytes line out)
-    × ((bytes′ ≡ bytesAfterLine words bytes line out) × (out′ ≡ outAfter words bytes line out)))
-unfolding answerNumber outAfter wordsAfterLine bytesAfterLine
-answered words bytes line out {command} room e did =
-    let text = printed words bytes command in
-    let laid = put-laid out text 0 (omega (arith, printed-most words bytes command)) (did .0, did .1 .0) in
-    rw (le-ltb (length out) answerRoom room, ← e)
-    (omega (arith, laid .0), (did .1 .1 .0, (did .1 .1 .1, laid .1)))
+-- So where the buffer has that room left, what a line prints is laid there whole.
+pub answer-laid : (words bytes line out : List ℕ) (used : ℕ) → used + answerRoom ≤ length out
+    → let text = answerText words bytes line in
+    (usedAfter used text out ≡ used + length text) × (putAfter used text out ≡ laidAfter used text out)
+answer-laid words bytes line out used room =
+    put-laid out (answerText words bytes line) used (omega (arith, printed-most words bytes (commandOf line))) (refl, refl)

@@ -9,7 +9,7 @@ use borrow.Author.Tests.{eq-eqb, ne-eqb, lt-leb}
 use lib.Dec.{eqb}
 use lib.ListN.{length}
 use Rattle.ground.specs.Limits.{legalCount, legalCost}
-use Rattle.ground.specs.Refusal.{accepted, _gives_}
+use Rattle.ground.specs.Refusal.{accepted, _gives_, answerBase}
 use Rattle.ground.proofs.Refusal.{gives-below, otherwise-below}
 use Rattle.ground.proofs.Tests.{equal-or-not}
 use Rattle.tree.specs.Recompute.{copyOf}
@@ -22,12 +22,13 @@ use Rattle.rules.specs.Network.{refusalOf, unitAt, queue, isUp, nextMessage, ba
 use Rattle.rules.specs.NetworkTable.{networkRefusal, freshNetworkRefusal}
 use Rattle.rules.specs.Tables.{networkWords, networkBytes, networkFrom, fitTables}
 use Rattle.rules.specs.Unit.{Unit, awaits}
+use Rattle.lines.specs.Commands.{commandOf}
 use Rattle.lines.specs.declared.Command.{Command}
 use Rattle.lines.specs.declared.Command.the-variants.{Units, Up, Cost, Down, Deliver, Show, Bad}
-use Rattle.texts.specs.Putting.{usedAfter, putAfter}
-use Rattle.texts.proofs.Putting.{Put, put-as}
+use Rattle.slices.specs.Putting.{usedAfter, putAfter}
+use Rattle.slices.proofs.Putting.{Put, put-as}
 use Rattle.script.specs.Acting.{actNumber, saidOf, badNumber}
-use Rattle.script.specs.Answers.{verdict, printed, wordsThen, bytesThen, answerBase}
+use Rattle.script.specs.Answers.{verdict, printed, wordsThen, bytesThen, answerText}
 
 -- A message's refusal is small.
 message-small : (u : Unit) (m : Message) → messageRefusal u m < answerBase
@@ -104,13 +105,25 @@ said-printed words bytes Show d = absurd (d refl)
 said-printed words bytes Bad d = refl
 
 -- What is done by a call, and put for its answer, is what the command does and prints.
-pub said-put : (words bytes out : List ℕ) {command : Command} {number used : ℕ} {words′ bytes′ out′ : List ℕ} → command ≢ Show
+pub said-put : (words bytes out : List ℕ) (used : ℕ) {command : Command} {number then : ℕ} {words′ bytes′ out′ : List ℕ}
+    → command ≢ Show
     → (number ≡ actNumber words bytes command)
     × ((words′ ≡ wordsThen words bytes command) × (bytes′ ≡ bytesThen words bytes command))
-    → Put out 0 (saidOf number) used out′
-    → (used ≡ usedAfter 0 (printed words bytes command) out)
-    × ((out′ ≡ putAfter 0 (printed words bytes command) out)
+    → Put out used (saidOf number) then out′
+    → (then ≡ usedAfter used (printed words bytes command) out)
+    × ((out′ ≡ putAfter used (printed words bytes command) out)
     × ((words′ ≡ wordsThen words bytes command) × (bytes′ ≡ bytesThen words bytes command)))
-said-put words bytes out {command} other did put =
-    let laid = put-as out 0 (ap saidOf (did .0) ∙ said-printed words bytes command other) put in
+said-put words bytes out used {command} other did put =
+    let laid = put-as out used (ap saidOf (did .0) ∙ said-printed words bytes command other) put in
     (laid .0, (laid .1, did .1))
+
+-- The command that was done is the line's.
+pub line-done : (words bytes line out : List ℕ) (used : ℕ) {command : Command} {then : ℕ} {words′ bytes′ out′ : List ℕ}
+    → command ≡ commandOf line
+    → (then ≡ usedAfter used (printed words bytes command) out)
+    × ((out′ ≡ putAfter used (printed words bytes command) out)
+    × ((words′ ≡ wordsThen words bytes command) × (bytes′ ≡ bytesThen words bytes command)))
+    → (then ≡ usedAfter used (answerText words bytes line) out)
+    × ((out′ ≡ putAfter used (answerText words bytes line) out)
+    × ((words′ ≡ wordsThen words bytes (commandOf line)) × (bytes′ ≡ bytesThen words bytes (commandOf line))))
+line-done words bytes line out used e did = rw (← e) did

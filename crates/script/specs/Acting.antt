@@ -1,19 +1,19 @@
 -- A command's call and its answer, and the line that the answer prints.
-use Prim.Native.Nat.{ℕ}
+use Prim.Native.Nat.{ℕ, _*_}
 use mathlib.Core.List.{List}
 use lib.Dec.{eqb, leb}
 use Rattle.ground.specs.Choice.{if_then_else_}
+use Rattle.ground.specs.Refusal.{answerBase}
 use Rattle.rules.specs.Hub.{hubAnswer}
 use Rattle.rules.specs.Network.{up, cost, down, deliver}
 use Rattle.rules.specs.NetworkTable.{networkAnswer, freshNetworkRefusal}
 use Rattle.lines.specs.declared.Command.{Command}
 use Rattle.lines.specs.declared.Command.the-variants.{Units, Up, Cost, Down, Deliver, Show, Bad}
 use Rattle.texts.specs.Printed.{okLine, refusedLine, badLine}
-use Rattle.script.specs.Answers.{answerBase}
 
 -- The number of a line that is no command: above every answer of a call.
 abbrev pub badNumber : ℕ
-badNumber = 200
+badNumber = 2 * answerBase
 
 -- The answer of the call that a command is.
 abbrev pub actNumber : (words bytes : List ℕ) → Command → ℕ

@@ -1,27 +1,23 @@
 // What a line does and prints.
 ghost use mathlib.Core.Path.{_≡_};
-ghost use Rattle.texts.specs.Putting.{usedAfter, putAfter};
+ghost use Rattle.lines.specs.Commands.{commandOf};
+ghost use Rattle.slices.specs.Putting.{usedAfter, putAfter};
 ghost use Rattle.script.specs.Acting.{actNumber, saidOf};
-ghost use Rattle.script.specs.Answers.{printed, wordsThen, bytesThen};
-ghost use Rattle.script.specs.Answers.{answerNumber, outAfter, wordsAfterLine, bytesAfterLine};
-use crate::show;
+ghost use Rattle.script.specs.Answers.{printed, wordsThen, bytesThen, answerText};
+use ground::ANSWERED;
 use ground::UNITS;
 use lines::Command;
 use network::calls;
 use network::questions;
+use slices::bytes;
 use texts::LINE_ROOM;
 use texts::text;
 
 // The room for every answer: a line for each two units.
 pub const ANSWER_ROOM: usize = UNITS * UNITS * LINE_ROOM;
 
-// The least answer of what is not refused, to which a number is added; the refusal of a buffer without that room.
-pub const ANSWERED: u32 = 100;
-
-const TOO_SHORT: u32 = 7;
-
 // The number of a line that is no command: above every answer of a call.
-const BAD: u32 = 200;
+const BAD: u32 = 2 * ANSWERED;
 
 // Does what a command asks, but for `show`: a call's answer, or the number of a bad line.
 fn act(words: &mut [u32], queues: &mut [u8], command: Command) -> u32
@@ -41,44 +37,52 @@ fn act(words: &mut [u32], queues: &mut [u8], command: Command) -> u32
 }
 
 // The line that a call's answer, or a bad line, prints.
-fn put_verdict(out: &mut [u8], number: u32) -> usize
-    ensures answer { λ r. ⌜ r ≡ usedAfter 0 (saidOf number) (now (out .entry)) ⌝ }
-    ensures out { λ r. ⌜ now (out .exit) ≡ putAfter 0 (saidOf number) (now (out .entry)) ⌝ }
+fn put_verdict(out: &mut [u8], used: usize, number: u32) -> usize
+    ensures answer { λ r. ⌜ r ≡ usedAfter used (saidOf number) (now (out .entry)) ⌝ }
+    ensures out { λ r. ⌜ now (out .exit) ≡ putAfter used (saidOf number) (now (out .entry)) ⌝ }
 {
     if number == BAD {
-        return text::put_text(out, 0, b"bad line\n");
+        return bytes::put_text(out, used, b"bad line\n");
     }
     if ANSWERED <= number {
-        return text::put_text(out, 0, b"ok\n");
+        return bytes::put_text(out, used, b"ok\n");
     }
-    text::put_refused(out, 0, number)
+    text::put_refused(out, used, number)
 }
 
-// Does what a command asks and puts what it prints at the start of `out`; answers the bytes used.
-fn perform(words: &mut [u32], queues: &mut [u8], command: Command, out: &mut [u8]) -> usize
-    ensures answer { λ r. ⌜ r ≡ usedAfter 0 (printed (now (words .entry)) (now (queues .entry)) command) (now (out .entry)) ⌝ }
-    ensures out { λ r. ⌜ now (out .exit) ≡ putAfter 0 (printed (now (words .entry)) (now (queues .entry)) command) (now (out .entry)) ⌝ }
+// Does what a command asks and puts what it prints behind the bytes used; answers those used then.
+fn perform(
+    words: &mut [u32],
+    queues: &mut [u8],
+    command: Command,
+    out: &mut [u8],
+    used: usize,
+) -> usize
+    ensures answer { λ r. ⌜ r ≡ usedAfter used (printed (now (words .entry)) (now (queues .entry)) command) (now (out .entry)) ⌝ }
+    ensures out { λ r. ⌜ now (out .exit) ≡ putAfter used (printed (now (words .entry)) (now (queues .entry)) command) (now (out .entry)) ⌝ }
     ensures words { λ r. ⌜ now (words .exit) ≡ wordsThen (now (words .entry)) (now (queues .entry)) command ⌝ }
     ensures queues { λ r. ⌜ now (queues .exit) ≡ bytesThen (now (words .entry)) (now (queues .entry)) command ⌝ }
 {
     if let Command::Show = command {
-        return show::show(words, queues, out);
+        return listing::show(words, queues, out, used);
     }
     let number = act(words, queues, command);
-    put_verdict(out, number)
+    put_verdict(out, used, number)
 }
 
-// Does what a line asks and lays what it prints at the start of `out`; answers ANSWERED plus its bytes, or TOO_SHORT where
-// `out` has not ANSWER_ROOM places, and then changes nothing.
-pub fn answer(words: &mut [u32], queues: &mut [u8], line: &[u8], out: &mut [u8]) -> u32
-    ensures answer { λ r. ⌜ r ≡ answerNumber (now (words .entry)) (now (queues .entry)) (now (line .entry)) (now (out .entry)) ⌝ }
-    ensures words { λ r. ⌜ now (words .exit) ≡ wordsAfterLine (now (words .entry)) (now (queues .entry)) (now (line .entry)) (now (out .entry)) ⌝ }
-    ensures queues { λ r. ⌜ now (queues .exit) ≡ bytesAfterLine (now (words .entry)) (now (queues .entry)) (now (line .entry)) (now (out .entry)) ⌝ }
-    ensures out { λ r. ⌜ now (out .exit) ≡ outAfter (now (words .entry)) (now (queues .entry)) (now (line .entry)) (now (out .entry)) ⌝ }
+// Does what a line asks and puts what it prints behind the bytes used; answers those used then. With ANSWER_ROOM places left in
+// `out`, every answer has room.
+pub fn answer(
+    words: &mut [u32],
+    queues: &mut [u8],
+    line: &[u8],
+    out: &mut [u8],
+    used: usize,
+) -> usize
+    ensures answer { λ r. ⌜ r ≡ usedAfter used (answerText (now (words .entry)) (now (queues .entry)) (now (line .entry))) (now (out .entry)) ⌝ }
+    ensures out { λ r. ⌜ now (out .exit) ≡ putAfter used (answerText (now (words .entry)) (now (queues .entry)) (now (line .entry))) (now (out .entry)) ⌝ }
+    ensures words { λ r. ⌜ now (words .exit) ≡ wordsThen (now (words .entry)) (now (queues .entry)) (commandOf (now (line .entry))) ⌝ }
+    ensures queues { λ r. ⌜ now (queues .exit) ≡ bytesThen (now (words .entry)) (now (queues .entry)) (commandOf (now (line .entry))) ⌝ }
 {
-    if out.len() < ANSWER_ROOM {
-        return TOO_SHORT;
-    }
-    let command = lines::parse(line);
-    ANSWERED + perform(words, queues, command, out) as u32
+    perform(words, queues, lines::parse(line), out, used)
 }

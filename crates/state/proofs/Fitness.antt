@@ -1,5 +1,5 @@
 -- Whether a unit in arrays is fit: each of the code's tests is the rules' test.
-use Prim.Native.Nat.{ℕ, _+_, _-_, _*_, _≤_, _<_}
+use Prim.Native.Nat.{ℕ, _-_, _*_, _≤_, _<_}
 use native.Mathlib.Omega.{arith}
 use mathlib.Core.Bool.{Bool, true, false, _||_}
 use mathlib.Core.List.{List}
@@ -7,8 +7,8 @@ use mathlib.Core.Logic.{_≢_}
 use mathlib.Core.Path.{_≡_, sym, ap, _∙_}
 use borrow.Author.Tests.{eq-eqb, ne-eqb, le-leb, leb-true, lt-leb, lt-ltb}
 use lib.Dec.{eqb, leb}
-use lib.ListN.{length, take, drop, length-replicate}
-use lib.Seq.{ext-getD, getD-take}
+use lib.ListN.{length, take}
+use lib.Seq.{getD-take}
 use Rattle.ground.specs.Choice.{if_then_else_}
 use Rattle.ground.specs.Limits.{unitLimit, highestCost, far, longest}
 use Rattle.ground.specs.Rows.{at, zeros, every, same}
@@ -16,8 +16,8 @@ use Rattle.tree.specs.Recompute.{copyOf}
 use Rattle.tree.specs.Tree.{isTree}
 use Rattle.rules.specs.Tables.{unitWords, laidUnit, unitFrom, fitUnitTable}
 use Rattle.rules.specs.Unit.{Unit, fitLink, fitFeasible, fitUnit}
-use Rattle.ground.proofs.Lists.{at-zeros, parts}
-use Rattle.ground.proofs.Rows.{every-ext, same-eq, eq-same}
+use Rattle.ground.proofs.Lists.{parts}
+use Rattle.ground.proofs.Rows.{every-ext}
 use Rattle.ground.proofs.Tests.{not-yes, not-both, either-right}
 use Rattle.rules.proofs.FitUnit.{upTest, link-down, link-up, fit-facts, facts-fit, fit-table-facts}
 use Rattle.rules.proofs.Laid.{part-length}
@@ -26,16 +26,6 @@ use Rattle.recomputing.proofs.CopiedRows.{row-copy}
 use Rattle.state.specs.Holding.{unitOf}
 use Rattle.state.specs.declared.held.Held.{Held}
 use Rattle.recomputing.proofs.CopiedRows.{copy-of}
-
--- Lists that differ fail the test.
-pub not-same : (xs ys : List ℕ) → xs ≢ ys → same xs ys ≡ false
-not-same xs ys d = not-yes (same xs ys) (λ t. d (same-eq xs ys t))
-
--- A row whose numbers are all 0 holds nothing.
-pub empty-same : (xs : List ℕ) → ((i : ℕ) → i < length xs → at xs i ≡ 0) → same xs (zeros (length xs)) ≡ true
-empty-same xs h =
-    eq-same xs (zeros (length xs))
-    (ext-getD 0 xs (zeros (length xs)) (sym (length-replicate (length xs) 0)) (λ i l. h i l ∙ sym (at-zeros (length xs) i)))
 
 module _ (h : Held) (k : ℕ) (l : k < h .count) where
   -- The cost of a link is the array's number.

@@ -6,7 +6,7 @@ use mathlib.Core.Logic.{⊎-elim}
 use mathlib.Core.Path.{_≡_, refl, sym, ap, _∙_}
 use borrow.Author.Tests.{lt-ltb, le-ltb}
 use lib.ListN.{length, getD, set, take, drop, length-map, length-append, length-take, List·getD-eq-default}
-use lib.Seq.{take-at, take-all, getD-take, getD-drop, ext-getD, paste, length-paste}
+use lib.Seq.{take-at, take-all, getD-take, getD-drop, ext-getD}
 use Rattle.ground.specs.Limits.{unitLimit}
 use Rattle.ground.specs.Rows.{at, tab, zeros, joined}
 use Rattle.rules.specs.Tables.{copyAt, unitWords, part, laidRow, laidUnit, unitFrom}
@@ -18,6 +18,9 @@ use Rattle.ground.proofs.Rows.{length-tab, tab-at, tab-ext, tab-row}
 use Rattle.ground.proofs.Tests.{less-or-not}
 use Rattle.rules.proofs.Laid.{ShapedUnit, unit-shaped}
 use Rattle.recomputing.specs.Flat.{flatLength, copyIn}
+use Rattle.slices.specs.Slices.{laidOver}
+use Rattle.slices.proofs.Overlaid.{laid-length}
+use Rattle.slices.proofs.Stretches.{replaced}
 use Rattle.state.specs.Holding.{heldOf, unitOf, laidWith, copyPlace, flatCopies}
 
 -- Five rows, one after the other.
@@ -185,11 +188,13 @@ begins-two count me (x ∷ y ∷ d) l = record { long = l; first = refl }
 
 -- It begins with more once a row is laid behind them.
 pub begins-more : (k n : ℕ) (xs d row after : List ℕ) → Begins k xs d → k + n ≤ unitWords → length row ≡ n
-    → after ≡ paste d k row n → Begins (k + n) (xs ++ row) after
+    → after ≡ laidOver d k row → Begins (k + n) (xs ++ row) after
 begins-more k n xs d row after b h l e =
     record {
-      long = ap length e ∙ length-paste d k row n (omega (arith, b .long)) (omega arith) ∙ b .long;
-      first = ap (take (k + n)) e ∙ take-laid d k n row xs (omega (arith, b .long)) l (b .first);
+      long = ap length e ∙ laid-length d k row ∙ b .long;
+      first =
+          ap (take (k + n)) (e ∙ replaced d k n (omega (arith, b .long)) row l refl)
+          ∙ take-laid d k n row xs (omega (arith, b .long)) l (b .first);
     }
 
 -- It is whole once it begins with all of its numbers.

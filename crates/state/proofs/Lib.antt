@@ -1,7 +1,7 @@
 -- Laws that several proofs of this crate cite, and those by which others know a unit's state.
-pub mod Answers
 pub mod Fitness
 pub mod Fresh
 pub mod Holding
+pub mod QuestionAnswers
 pub mod Successors
 pub mod Tables

@@ -1,6 +1,6 @@
 -- Any numbers as a table: which hold a unit, and which are laid over.
 use Prim.Native.Nat.{ℕ, _≤_, _<_}
-use mathlib.Core.Bool.{true, false, _&&_}
+use mathlib.Core.Bool.{true, _&&_}
 use mathlib.Core.List.{List}
 use mathlib.Core.Logic.{_≢_}
 use mathlib.Core.Path.{_≡_}
@@ -11,9 +11,9 @@ use Rattle.ground.specs.Limits.{unitLimit}
 use Rattle.ground.specs.Rows.{at}
 use Rattle.rules.specs.Tables.{unitWords, unitFrom, fitUnitTable}
 use Rattle.ground.proofs.Tests.{both-of, and-false, if-true, if-false}
-use Rattle.state.specs.Holding.{heldOf, laidWith, noUnit, heldFrom, laidOver}
+use Rattle.state.specs.Holding.{heldOf, laidWith, noUnit, heldFrom, withUnit}
 use Rattle.state.specs.declared.held.Held.{Held}
-use Rattle.state.proofs.Answers.{loadable}
+use Rattle.state.proofs.QuestionAnswers.{loadable}
 
 module _ (words : List ℕ) where
   -- Numbers of another length hold no unit.
@@ -41,19 +41,19 @@ module _ (words : List ℕ) where
 
 module _ (words : List ℕ) (h : Held) (successors : List ℕ) where
   -- Numbers of another length stay.
-  pub stays-long : length words ≢ unitWords → laidOver words h successors ≡ words
-  unfolding laidOver
+  pub stays-long : length words ≢ unitWords → withUnit words h successors ≡ words
+  unfolding withUnit
   stays-long d = rw (ne-eqb (length words) unitWords d)
 
   -- Nor is a unit laid whose numbers are above the limit.
-  pub stays-counted : unitLimit < h .count → laidOver words h successors ≡ words
-  unfolding laidOver
+  pub stays-counted : unitLimit < h .count → withUnit words h successors ≡ words
+  unfolding withUnit
   stays-counted d =
       if-false _ _ _
       (and-false (eqb (length words) unitWords) (leb (h .count) unitLimit && leb (h .me) unitLimit) (rw (lt-leb (h .count) unitLimit d)))
 
-  pub stays-placed : unitLimit < h .me → laidOver words h successors ≡ words
-  unfolding laidOver
+  pub stays-placed : unitLimit < h .me → withUnit words h successors ≡ words
+  unfolding withUnit
   stays-placed d =
       if-false _ _ _
       (and-false (eqb (length words) unitWords) (leb (h .count) unitLimit && leb (h .me) unitLimit)
@@ -61,8 +61,8 @@ module _ (words : List ℕ) (h : Held) (successors : List ℕ) where
 
   -- A table is laid over.
   pub laid-over : length words ≡ unitWords → h .count ≤ unitLimit → h .me ≤ unitLimit
-      → laidOver words h successors ≡ laidWith h successors
-  unfolding laidOver
+      → withUnit words h successors ≡ laidWith h successors
+  unfolding withUnit
   laid-over long low place =
       if-true _ _ _
       (both-of (eqb (length words) unitWords) _ (eq-eqb (length words) unitWords long)

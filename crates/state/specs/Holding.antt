@@ -1,6 +1,6 @@
 -- A unit as the code holds it, in arrays of fixed length with zeros from the count on, and the unit that such arrays hold.
 use Prim.Native.Nat.{ℕ, _+_, _/_, _%_}
-use mathlib.Core.Bool.{Bool, _&&_}
+use mathlib.Core.Bool.{_&&_}
 use mathlib.Core.List.{List, _∷_, _++_, map}
 use lib.Dec.{eqb, ltb, leb}
 use lib.ListN.{length, take}
@@ -69,7 +69,7 @@ unfoldable pub heldFrom : (words : List ℕ) → Held
 heldFrom words =
     if eqb (length words) unitWords && leb (at words 0) unitLimit then heldOf (unitFrom words) else noUnit
 
-unfoldable pub laidOver : (words : List ℕ) → Held → (successors : List ℕ) → List ℕ
-laidOver words h successors =
+unfoldable pub withUnit : (words : List ℕ) → Held → (successors : List ℕ) → List ℕ
+withUnit words h successors =
     if eqb (length words) unitWords && (leb (h .count) unitLimit && leb (h .me) unitLimit) then laidWith h successors
     else words

@@ -1,9 +1,8 @@
 // Whether a unit's table is fit: what it holds is within the rules, and it is exactly what that unit lays out.
 ghost use mathlib.Core.Path.{_≡_};
 ghost use Prim.Native.Nat.{_≤_, _<_};
-ghost use lib.ListN.{length};
 ghost use Rattle.ground.specs.Limits.{unitLimit};
-ghost use Rattle.ground.specs.Rows.{every, same, zeros};
+ghost use Rattle.ground.specs.Rows.{every};
 ghost use Rattle.rules.specs.Tables.{fitUnitTable};
 ghost use Rattle.rules.specs.Unit.{fitLink, fitFeasible, fitUnit};
 ghost use Rattle.state.specs.Holding.{unitOf};
@@ -18,20 +17,7 @@ use recomputing::copies;
 use recomputing::heads;
 use recomputing::successors;
 use recomputing::through;
-
-// Whether numbers are all 0: a copy that holds nothing, a table of no unit.
-pub fn is_empty(copy: &[u32]) -> bool
-    ensures { λ r. ⌜ r ≡ same (now (copy .entry)) (zeros (length (now (copy .entry)))) ⌝ }
-{
-    let mut j = 0;
-    while j < copy.len() {
-        if copy[j] != 0 {
-            return false;
-        }
-        j += 1;
-    }
-    true
-}
+use slices::numbers;
 
 // One link: down, without copy or wait; or up, at a legal cost, to another unit, with a copy that is a tree.
 fn fit_link(unit: Held, k: usize) -> bool
@@ -47,7 +33,7 @@ fn fit_link(unit: Held, k: usize) -> bool
         if awaited[k] != 0 {
             return false;
         }
-        return is_empty(&copy[..count]);
+        return numbers::is_nothing(&copy[..count]);
     }
     if k == unit.me {
         return false;
@@ -122,23 +108,6 @@ fn fit_unit(unit: Held) -> bool
     fit_feasible(unit)
 }
 
-// Whether two tables hold the same numbers.
-fn same_numbers(a: &[u32], b: &[u32]) -> bool
-    ensures { λ r. ⌜ r ≡ same (now (a .entry)) (now (b .entry)) ⌝ }
-{
-    if a.len() != b.len() {
-        return false;
-    }
-    let mut i = 0;
-    while i < a.len() {
-        if a[i] != b[i] {
-            return false;
-        }
-        i += 1;
-    }
-    true
-}
-
 pub fn is_fit(table: &[u32]) -> bool
     ensures { λ r. ⌜ r ≡ fitUnitTable (now (table .entry)) ⌝ }
 {
@@ -159,5 +128,5 @@ pub fn is_fit(table: &[u32]) -> bool
     let sets = successors::sets_over(unit.count, through, feasible);
     let mut again = [0u32; UNIT_WORDS];
     held::lay(&mut again, unit, sets);
-    same_numbers(table, &again)
+    numbers::is_same(table, &again)
 }

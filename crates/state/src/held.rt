@@ -6,16 +6,16 @@ ghost use mathlib.Core.Path.{_≡_};
 ghost use Prim.Native.Nat.{_+_, _≤_};
 ghost use lib.Dec.{leb};
 ghost use lib.ListN.{length};
-ghost use lib.Seq.{paste};
 ghost use Rattle.ground.specs.Limits.{unitLimit};
 ghost use Rattle.ground.specs.Rows.{at, filled};
 ghost use Rattle.rules.specs.Tables.{unitWords, part, unitFrom, copyAt};
 ghost use Rattle.rules.specs.Unit.{isActive};
-ghost use Rattle.recomputing.specs.Flat.{flatLength};
-ghost use Rattle.state.specs.Holding.{heldOf, unitOf, laidWith, flatCopies, noUnit, heldFrom, laidOver};
+ghost use Rattle.slices.specs.Slices.{laidOver};
+ghost use Rattle.state.specs.Holding.{heldOf, unitOf, laidWith, flatCopies, noUnit, heldFrom, withUnit};
 use ground::COPIES;
 use ground::UNIT_WORDS;
 use ground::UNITS;
+use slices::numbers;
 
 // Where each row begins.
 pub const COSTS: usize = 2;
@@ -46,13 +46,9 @@ pub(crate) fn row(table: &[u32], from: usize, count: usize) -> [u32; UNITS]
     requires { ⌜ (count ≤ unitLimit) × (from + unitLimit ≤ length (now table)) ⌝ }
     ensures { λ r. ⌜ r ≡ filled unitLimit (part (now (table .entry)) from count) ⌝ }
 {
-    let mut numbers = [0u32; UNITS];
-    let mut j = 0;
-    while j < count {
-        numbers[j] = table[from + j];
-        j += 1;
-    }
-    numbers
+    let mut first = [0u32; UNITS];
+    numbers::lay_over(&mut first, 0, &table[from..from + count]);
+    first
 }
 
 // The first `count` numbers of each of the first `count` copies.
@@ -91,27 +87,17 @@ pub(crate) fn load(table: &[u32]) -> Held
 }
 
 // A row, laid into the table from a place on.
-fn put_row(table: &mut [u32], from: usize, numbers: [u32; UNITS])
-    requires { ⌜ from + unitLimit ≤ length (now table) ⌝ }
-    ensures { λ r. ⌜ now (table .exit) ≡ paste (now (table .entry)) from numbers unitLimit ⌝ }
+fn put_row(table: &mut [u32], from: usize, row: [u32; UNITS])
+    ensures { λ r. ⌜ now (table .exit) ≡ laidOver (now (table .entry)) from row ⌝ }
 {
-    let mut j = 0;
-    while j < UNITS {
-        table[from + j] = numbers[j];
-        j += 1;
-    }
+    numbers::lay_over(table, from, &row);
 }
 
 // The copies, laid into the table.
-fn put_copies(table: &mut [u32], numbers: [u32; COPIES])
-    requires { ⌜ length (now table) ≡ unitWords ⌝ }
-    ensures { λ r. ⌜ now (table .exit) ≡ paste (now (table .entry)) (copyAt 0) numbers flatLength ⌝ }
+fn put_copies(table: &mut [u32], copies: [u32; COPIES])
+    ensures { λ r. ⌜ now (table .exit) ≡ laidOver (now (table .entry)) (copyAt 0) copies ⌝ }
 {
-    let mut i = 0;
-    while i < COPIES {
-        table[COPY + i] = numbers[i];
-        i += 1;
-    }
+    numbers::lay_over(table, COPY, &copies);
 }
 
 // No unit: what a table holds that is none.
@@ -164,7 +150,7 @@ pub(crate) fn lay(table: &mut [u32], unit: Held, successors: [u32; UNITS])
 
 // The same over any numbers: only a table is laid over, and only by a unit whose numbers are within the limit.
 pub fn put_unit(table: &mut [u32], unit: Held, successors: [u32; UNITS])
-    ensures { λ r. ⌜ now (table .exit) ≡ laidOver (now (table .entry)) unit successors ⌝ }
+    ensures { λ r. ⌜ now (table .exit) ≡ withUnit (now (table .entry)) unit successors ⌝ }
 {
     if table.len() != UNIT_WORDS {
         return;
@@ -183,16 +169,8 @@ pub(crate) fn awaits_some(unit: Held) -> bool
     requires { ⌜ unit .count ≤ unitLimit ⌝ }
     ensures { λ r. ⌜ r ≡ isActive (unitOf unit) ⌝ }
 {
-    let count = unit.count;
     let awaited = unit.awaited;
-    let mut k = 0;
-    while k < count {
-        if awaited[k] != 0 {
-            return true;
-        }
-        k += 1;
-    }
-    false
+    !numbers::is_nothing(&awaited[..unit.count])
 }
 
 // Whether the unit awaits an acknowledgment.

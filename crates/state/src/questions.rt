@@ -11,6 +11,7 @@ ghost use Rattle.rules.specs.Hub.{freshTableAnswer, freshTable, activeAnswer, q
 use crate::fit;
 use crate::held;
 use crate::held::Held;
+use ground::ANSWERED;
 use ground::COPIES;
 use ground::FAR;
 use ground::UNIT_WORDS;
@@ -68,7 +69,7 @@ pub fn fresh(count: u32, me: u32, table: &mut [u32]) -> u32
         copies: [0u32; COPIES],
     };
     held::lay(table, unit, [0u32; UNITS]);
-    100
+    ANSWERED
 }
 
 pub fn active(table: &[u32]) -> u32
@@ -80,7 +81,7 @@ pub fn active(table: &[u32]) -> u32
     if held::awaits_some(held::load(table)) {
         return 101;
     }
-    100
+    ANSWERED
 }
 
 fn question_refusal(table: &[u32], to: u32) -> u32
@@ -99,7 +100,11 @@ fn reach(distance: u32) -> u32
     requires { ⌜ (distance ≤ longest) ⊎ (distance ≡ far) ⌝ }
     ensures { λ r. ⌜ r ≡ reachable distance ⌝ }
 {
-    if distance == FAR { FAR } else { 100 + distance }
+    if distance == FAR {
+        FAR
+    } else {
+        ANSWERED + distance
+    }
 }
 
 fn distance(table: &[u32], to: u32) -> u32
@@ -134,7 +139,7 @@ fn successors(table: &[u32], to: u32) -> u32
     if number != 0 {
         return number;
     }
-    100 + table[held::SUCCESSORS + to as usize]
+    ANSWERED + table[held::SUCCESSORS + to as usize]
 }
 
 // What can be asked of a unit about a destination.

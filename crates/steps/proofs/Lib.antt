@@ -1,7 +1,5 @@
 -- What one event does to a unit and one call to a network: laws that the code's proofs and the theorems both cite.
 pub mod AcceptedCalls
-pub mod Alone
-pub mod Cases
 pub mod FitReaction
 pub mod Fresh
 pub mod LinkEnds

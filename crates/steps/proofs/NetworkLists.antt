@@ -12,7 +12,7 @@ use Rattle.rules.specs.Event.{Reaction}
 use Rattle.rules.specs.Message.{Message}
 use Rattle.rules.specs.Network.{Network, unitAt, queue, withQueue, reacted}
 use Rattle.rules.specs.Unit.{freshUnit}
-use Rattle.steps.proofs.Cases.{by-equal}
+use Rattle.ground.proofs.Cases.{by-equal}
 
 pub record Shape (n : ℕ) (net : Network) : Type 0 where
   pub counted : net .count ≡ n

@@ -1,6 +1,5 @@
 -- A call that is not refused leaves a fit and shaped network orderly; and so shaped, as no queue passes its room.
 use Prim.Native.Nat.{ℕ, _≤_, _<_}
-use native.Mathlib.Nat.{add-zero}
 use native.Mathlib.Omega.{arith}
 use mathlib.Core.Bool.{true, false, not, _||_}
 use mathlib.Core.List.{[]}
@@ -9,7 +8,7 @@ use mathlib.Core.Path.{_≡_, refl, sym, _∙_}
 use borrow.Author.Tests.{eqb-true, eqb-false, ltb-false, not-true, not-false}
 use lib.Dec.{eqb, ltb}
 use lib.ListN.{length, set, drop, drop-of-length-le}
-use lib.Seq.{getD-drop, getD-set-other}
+use lib.Seq.{getD-set-other}
 use Rattle.ground.specs.Limits.{queueRoom}
 use Rattle.ground.specs.Refusal.{accepted}
 use Rattle.ground.specs.Rows.{at, some}
@@ -18,36 +17,27 @@ use Rattle.tree.specs.Tree.{isTree}
 use Rattle.rules.specs.Event.{received, linkUp, newCost, linkDown, noted, reaction, messageRefusal}
 use Rattle.rules.specs.Message.{Message, holdsUpdate, applied}
 use Rattle.rules.specs.Network.{Network, Call, up, cost, down, deliver, unitAt, queue, isUp, nextMessage}
-use Rattle.rules.specs.Network.{withQueue, reacted, happens, outcome, overflows, refusalOf, callRefusal, fitQueued}
+use Rattle.rules.specs.Network.{withQueue, reacted, happens, outcome, overflows, refusalOf, callRefusal}
 use Rattle.rules.specs.Network.{fitQueue}
 use Rattle.rules.specs.Unit.{Unit, isNeighbour}
 use Rattle.ground.proofs.Choices.{by-choice}
-use Rattle.ground.proofs.Each.{none, each-drop, each-at, each-of}
+use Rattle.ground.proofs.Each.{none, each-drop, each-at}
 use Rattle.ground.proofs.Lists.{parts}
-use Rattle.ground.proofs.Rows.{every-at, some-none}
+use Rattle.ground.proofs.Rows.{some-none}
 use Rattle.ground.proofs.Tests.{not-both}
 use Rattle.rules.proofs.Fit.{FitNetwork}
-use Rattle.rules.proofs.Laid.{noMessage, messageAt, ShapedNetwork}
+use Rattle.rules.proofs.Laid.{noMessage}
+use Rattle.rules.proofs.LaidNetwork.{ShapedNetwork}
 use Rattle.rules.proofs.Noted.{up-fit, cost-fit, down-fit, received-fit}
-use Rattle.rules.proofs.Written.{legal-of}
+use Rattle.rules.proofs.QueuedMessages.{queued-sender, proper-shaped, queue-proper}
 use Rattle.steps.proofs.AcceptedCalls.{Ends, LegalCost, AcceptedUp, AcceptedCost, AcceptedDelivery, message-tree}
 use Rattle.steps.proofs.AcceptedCalls.{accepted-up, accepted-cost, accepted-down, accepted-delivery}
 use Rattle.steps.proofs.LinkEnds.{end-set}
-use Rattle.steps.proofs.Cases.{by-equal}
+use Rattle.ground.proofs.Cases.{by-equal}
 use Rattle.steps.proofs.NetworkLists.{queue-of-other, emptied, emptied-back, emptied-there}
 use Rattle.steps.proofs.OrderlyNetwork.{Orderly, orderly-queue, orderly-happens}
-use Rattle.steps.proofs.SentMessages.{Proper}
 
 module _ (net : Network) (a b : ℕ) (e : fitQueue net a b ≡ true) where
-  -- The messages of a fit queue are proper.
-  queue-proper : Proper (net .count) a (queue net a b)
-  unfolding fitQueue
-  queue-proper =
-      each-of (queue net a b) noMessage (λ i l.
-      rw (getD-drop, add-zero) at
-      (every-at (length (queue net a b)) (λ j. fitQueued (net .count) a (nextMessage (drop j (queue net a b))))
-      (search parts) i l))
-
   -- A fit queue is empty where the sender's end is down.
   queue-quiet : isUp net a b ≡ false → queue net a b ≡ []
   unfolding fitQueue
@@ -85,7 +75,6 @@ queue-room net e a b ha hb =
 
 -- An orderly network whose queues have at most their room is shaped.
 pub orderly-shaped : (net : Network) → Orderly net → Roomy net → ShapedNetwork net
-unfolding fitQueued
 orderly-shaped net o roomy =
     record {
       low = omega (arith, o .low);
@@ -95,14 +84,7 @@ orderly-shaped net o roomy =
       unit = o .shaped;
       queues = o .shape .queues-length;
       row = o .shape .rows-length;
-      each = λ a b ha hb.
-          record {
-            room = roomy a b ha hb;
-            each = λ i l.
-                let proper : fitQueued (net .count) a (messageAt (queue net a b) i) ≡ true =
-                each-at (o .queued a b ha hb) i noMessage l in
-                legal-of (net .count) _ (search parts);
-          };
+      each = λ a b ha hb. proper-shaped (net .count) a (queue net a b) (roomy a b ha hb) (o .queued a b ha hb);
     }
 
 -- A link that is up has a cost.
@@ -211,12 +193,10 @@ module _ (net : Network) (o : Orderly net) (a b : ℕ) (t : Ends (net .count) a 
 
   -- The first message of a queue is from its sender.
   first-sender : eqb (length (queue net a b)) 0 ≡ false → nextMessage (queue net a b) .sender ≡ a
-  unfolding fitQueued
   first-sender e =
       let some : length (queue net a b) ≢ 0 = eqb-false _ 0 e in
-      let proper : fitQueued (net .count) a (nextMessage (queue net a b)) ≡ true =
-      each-at (o .queued a b (t .first) (t .second)) 0 noMessage (omega arith) in
-      eqb-true (nextMessage (queue net a b) .sender) a (search parts)
+      queued-sender (net .count) a (nextMessage (queue net a b))
+      (each-at (o .queued a b (t .first) (t .second)) 0 noMessage (omega arith))
 
   -- It is taken off its queue.
   pub first-taken : isUp net a b ≡ true → Orderly (withQueue net a b (drop 1 (queue net a b)))

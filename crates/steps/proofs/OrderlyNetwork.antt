@@ -13,10 +13,11 @@ use Rattle.rules.specs.Unit.{Unit, isNeighbour, fitUnit}
 use Rattle.ground.proofs.Each.{each-append}
 use Rattle.ground.proofs.Tests.{not-both}
 use Rattle.rules.proofs.Laid.{ShapedUnit}
-use Rattle.steps.proofs.Cases.{by-equal}
+use Rattle.rules.proofs.QueuedMessages.{Proper}
+use Rattle.ground.proofs.Cases.{by-equal}
 use Rattle.steps.proofs.NetworkLists.{Shape, queue-here, queue-elsewhere, shape-queue}
 use Rattle.steps.proofs.NetworkLists.{unit-here, unit-elsewhere, queue-from, queue-of-other, shape-reacted}
-use Rattle.steps.proofs.SentMessages.{Proper, Reacted, reacted-to}
+use Rattle.steps.proofs.SentMessages.{Reacted, reacted-to}
 
 -- A legal count and a place for each unit; each unit fit and shaped, with the network's count and its own number; each
 -- queued message legal and from its sender; none where the sender's end is down.

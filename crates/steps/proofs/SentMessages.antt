@@ -18,7 +18,7 @@ use Rattle.rules.specs.Message.{Message, acknowledgment, update, legalMessage}
 use Rattle.rules.specs.Network.{fitQueued}
 use Rattle.rules.specs.Unit.{Unit, isNeighbour, isActive, fitUnit}
 use Rattle.ground.proofs.Choices.{by-choice}
-use Rattle.ground.proofs.Each.{Each, none, one}
+use Rattle.ground.proofs.Each.{none, one}
 use Rattle.ground.proofs.Rows.{tab-at}
 use Rattle.ground.proofs.Tests.{both-of}
 use Rattle.tree.proofs.Rooted.{zeros-tree}
@@ -26,13 +26,10 @@ use Rattle.rules.proofs.Applied.{noted-shaped}
 use Rattle.rules.proofs.FitUnit.{FitFacts, fit-facts}
 use Rattle.rules.proofs.Laid.{ShapedUnit}
 use Rattle.rules.proofs.LegalDifferences.{legal-update, legal-acknowledgment}
+use Rattle.rules.proofs.QueuedMessages.{Proper}
 use Rattle.rules.proofs.Reacting.{reaction-by, noted-count, noted-me}
 use Rattle.steps.proofs.LinkEnds.{end-set}
 use Rattle.steps.proofs.FitReaction.{tree-by, fit-again, shaped-again}
-
--- Each message of a list is legal in a network of n units and from unit a.
-abbrev pub Proper : (n a : ℕ) → List Message → Type 0
-Proper n a ms = Each (λ m. fitQueued n a m ≡ true) ms
 
 module _ (v : Unit) (was : Bool) (new owed : ℕ) (f : FitFacts v) where
   -- The unit's new tree.

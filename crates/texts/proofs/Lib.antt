@@ -1,5 +1,4 @@
 -- Laws of texts.
 pub mod Digits
 pub mod Lengths
-pub mod Putting
 pub mod Successors

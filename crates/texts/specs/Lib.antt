@@ -1,4 +1,3 @@
--- Texts: decimals and words as bytes, the lines that are printed, and how they are put into a buffer.
+-- Texts: decimals and words as bytes, and the lines that are printed.
 pub mod Printed
-pub mod Putting
 pub mod Texts

@@ -6,10 +6,11 @@ ghost use Rattle.ground.specs.Bytes.{space, comma};
 ghost use Rattle.ground.specs.Choice.{if_then_else_};
 ghost use Rattle.ground.specs.Rows.{isIn};
 ghost use Rattle.texts.specs.Printed.{distanceText, joinedTo, successorsText, stateText, stateLine, pairLine, isSome, memberText};
-ghost use Rattle.texts.specs.Putting.{usedAfter, putAfter};
+ghost use Rattle.slices.specs.Putting.{usedAfter, putAfter};
 ghost use Rattle.texts.specs.Texts.{decimalOf};
 use crate::text;
 use ground::FAR;
+use slices::bytes;
 
 // The bytes used once some successors are put, and whether there are any.
 struct Listed {
@@ -23,7 +24,7 @@ fn put_distance(out: &mut [u8], used: usize, distance: u32) -> usize
     ensures out { λ r. ⌜ now (out .exit) ≡ putAfter used (distanceText distance) (now (out .entry)) ⌝ }
 {
     if distance == FAR {
-        return text::put_byte(out, used, b'-');
+        return bytes::put_byte(out, used, b'-');
     }
     text::put_number(out, used, distance)
 }
@@ -33,7 +34,7 @@ fn put_next(out: &mut [u8], used: usize, distance: u32) -> usize
     ensures answer { λ r. ⌜ r ≡ usedAfter used (space ∷ distanceText distance) (now (out .entry)) ⌝ }
     ensures out { λ r. ⌜ now (out .exit) ≡ putAfter used (space ∷ distanceText distance) (now (out .entry)) ⌝ }
 {
-    let then = text::put_byte(out, used, b' ');
+    let then = bytes::put_byte(out, used, b' ');
     put_distance(out, then, distance)
 }
 
@@ -43,7 +44,7 @@ fn put_comma(out: &mut [u8], used: usize, some: bool) -> usize
     ensures out { λ r. ⌜ now (out .exit) ≡ putAfter used (if some then comma ∷ [] else []) (now (out .entry)) ⌝ }
 {
     if some {
-        return text::put_byte(out, used, b',');
+        return bytes::put_byte(out, used, b',');
     }
     used
 }
@@ -88,7 +89,7 @@ fn put_successors(out: &mut [u8], used: usize, set: u32, count: u32) -> usize
     if joined.some {
         return joined.used;
     }
-    text::put_byte(out, joined.used, b'-')
+    bytes::put_byte(out, joined.used, b'-')
 }
 
 // A unit and a destination.
@@ -97,7 +98,7 @@ fn put_ends(out: &mut [u8], used: usize, i: u32, j: u32) -> usize
     ensures out { λ r. ⌜ now (out .exit) ≡ putAfter used (decimalOf i ++ (space ∷ decimalOf j)) (now (out .entry)) ⌝ }
 {
     let then = text::put_number(out, used, i);
-    let then = text::put_byte(out, then, b' ');
+    let then = bytes::put_byte(out, then, b' ');
     text::put_number(out, then, j)
 }
 
@@ -107,9 +108,9 @@ fn put_word(out: &mut [u8], used: usize, active: bool) -> usize
     ensures out { λ r. ⌜ now (out .exit) ≡ putAfter used (stateText active) (now (out .entry)) ⌝ }
 {
     if active {
-        return text::put_text(out, used, b" active");
+        return bytes::put_text(out, used, b" active");
     }
-    text::put_text(out, used, b" passive")
+    bytes::put_text(out, used, b" passive")
 }
 
 // The line of a unit's state.
@@ -117,10 +118,10 @@ pub fn put_state(out: &mut [u8], used: usize, i: u32, active: bool) -> usize
     ensures answer { λ r. ⌜ r ≡ usedAfter used (stateLine i active) (now (out .entry)) ⌝ }
     ensures out { λ r. ⌜ now (out .exit) ≡ putAfter used (stateLine i active) (now (out .entry)) ⌝ }
 {
-    let then = text::put_text(out, used, b"unit ");
+    let then = bytes::put_text(out, used, b"unit ");
     let then = text::put_number(out, then, i);
     let then = put_word(out, then, active);
-    text::put_byte(out, then, b'\n')
+    bytes::put_byte(out, then, b'\n')
 }
 
 // The line of a unit and a destination: its distance, its feasible distance, and its successors, a set of `count` units.
@@ -140,7 +141,7 @@ pub fn put_pair(
     let then = put_ends(out, used, i, j);
     let then = put_next(out, then, distance);
     let then = put_next(out, then, feasible);
-    let then = text::put_byte(out, then, b' ');
+    let then = bytes::put_byte(out, then, b' ');
     let then = put_successors(out, then, successors, count);
-    text::put_byte(out, then, b'\n')
+    bytes::put_byte(out, then, b'\n')
 }

@@ -1,40 +1,14 @@
-// Texts and decimals, byte by byte.
-ghost use mathlib.Core.List.{[], _∷_};
+// Decimals, and the line of a refusal.
 ghost use mathlib.Core.Path.{_≡_};
 ghost use Rattle.ground.specs.Bytes.{digitZero};
-ghost use Rattle.texts.specs.Putting.{usedAfter, putAfter};
+ghost use Rattle.slices.specs.Putting.{usedAfter, putAfter};
 ghost use Prim.Native.Nat.{_+_, _%_};
 ghost use Rattle.texts.specs.Printed.{refusedLine};
 ghost use Rattle.texts.specs.Texts.{decimalOf};
+use slices::bytes;
 
 // The most digits of a number.
 const DIGITS: usize = 10;
-
-// A byte, if there is room for it.
-pub(crate) fn put_byte(out: &mut [u8], used: usize, byte: u8) -> usize
-    ensures answer { λ r. ⌜ r ≡ usedAfter used (byte ∷ []) (now (out .entry)) ⌝ }
-    ensures out { λ r. ⌜ now (out .exit) ≡ putAfter used (byte ∷ []) (now (out .entry)) ⌝ }
-{
-    if used < out.len() {
-        out[used] = byte;
-        return used + 1;
-    }
-    used
-}
-
-// A text.
-pub fn put_text(out: &mut [u8], used: usize, text: &[u8]) -> usize
-    ensures answer { λ r. ⌜ r ≡ usedAfter used (now (text .entry)) (now (out .entry)) ⌝ }
-    ensures out { λ r. ⌜ now (out .exit) ≡ putAfter used (now (text .entry)) (now (out .entry)) ⌝ }
-{
-    let mut then = used;
-    let mut i = 0;
-    while i < text.len() {
-        then = put_byte(out, then, text[i]);
-        i += 1;
-    }
-    then
-}
 
 // The last digit of a number.
 fn digit(number: u32) -> u8
@@ -59,7 +33,7 @@ pub(crate) fn put_number(out: &mut [u8], used: usize, number: u32) -> usize
     }
     let byte = digit(rest);
     digits[first] = byte;
-    put_text(out, used, &digits[first..])
+    bytes::put_text(out, used, &digits[first..])
 }
 
 // The line of a refusal.
@@ -67,7 +41,7 @@ pub fn put_refused(out: &mut [u8], used: usize, number: u32) -> usize
     ensures answer { λ r. ⌜ r ≡ usedAfter used (refusedLine number) (now (out .entry)) ⌝ }
     ensures out { λ r. ⌜ now (out .exit) ≡ putAfter used (refusedLine number) (now (out .entry)) ⌝ }
 {
-    let then = put_text(out, used, b"refused ");
+    let then = bytes::put_text(out, used, b"refused ");
     let then = put_number(out, then, number);
-    put_byte(out, then, b'\n')
+    bytes::put_byte(out, then, b'\n')
 }

@@ -15,7 +15,7 @@ use Rattle.tree.specs.Shortest.{link, offer, oneMore, shortestWithin, sh
 use Rattle.tree.specs.Tree.{nothing, entry, plus}
 use Rattle.tree.proofs.Cells.{preferredCell, takenCell}
 use Rattle.tree.proofs.Shortest.{ShortestFacts}
-use Rattle.tree.proofs.Tree.{headIn, entryIn}
+use Rattle.tree.proofs.ShortestTree.{headIn, entryIn}
 
 -- Two tables of rows hold the same at each place.
 abbrev pub SameLinks : (a b : List (List ℕ)) → Type 0

@@ -15,7 +15,7 @@ use Rattle.tree.specs.Recompute.{treeOver}
 use Rattle.tree.specs.Shortest.{link, offer}
 use Rattle.tree.specs.Tree.{nothing, entry}
 use Rattle.tree.proofs.Shortest.{ShortestFacts}
-use Rattle.tree.proofs.Tree.{LegalLinks, headIn, tree-over-at}
+use Rattle.tree.proofs.ShortestTree.{LegalLinks, headIn, tree-over-at}
 
 module _ (n me : ℕ) (links : List (List ℕ)) (d : List ℕ) (j : ℕ) (h : j < n) where
   -- The root has no entry.

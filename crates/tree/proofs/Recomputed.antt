@@ -12,7 +12,7 @@ use Rattle.tree.specs.Recompute.{copyOf, throughNeighbours, preferred, t
 use Rattle.tree.specs.Shortest.{shortest}
 use Rattle.tree.specs.Tree.{isTree}
 use Rattle.tree.proofs.Taken.{takenBy, taken-positive, taken-legal}
-use Rattle.tree.proofs.Tree.{length-tree-over, tree-legal}
+use Rattle.tree.proofs.ShortestTree.{length-tree-over, tree-legal}
 
 -- A place for each unit.
 pub length-recomputed : (n me : ℕ) (costs : List ℕ) (copies : List (List ℕ)) → length (recomputed n me costs copies) ≡ n

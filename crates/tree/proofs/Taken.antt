@@ -19,7 +19,7 @@ use Rattle.tree.specs.Shortest.{link}
 use Rattle.tree.specs.Tree.{nothing, headOf, costOf, legalEntry, isTree, distance}
 use Rattle.tree.proofs.Cells.{through-at, nearestFor, lowestFor, preferred-at, preferred-most, takenCell, taken-at}
 use Rattle.tree.proofs.Shortest.{Links}
-use Rattle.tree.proofs.Tree.{LegalLinks}
+use Rattle.tree.proofs.ShortestTree.{LegalLinks}
 
 -- The cost of a link: unreachable for none, or at least 1 and at most the highest cost.
 abbrev LinkCost : ℕ → Type 0

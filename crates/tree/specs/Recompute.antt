@@ -1,7 +1,7 @@
 -- Recomputing a unit's tree from its link costs and the copies of its neighbours' trees. `costs` holds 0 where the link
 -- is down. Unit `me` is the one that recomputes.
 use Prim.Native.Nat.{ℕ}
-use mathlib.Core.Bool.{Bool, not, _&&_, _||_}
+use mathlib.Core.Bool.{not, _||_}
 use mathlib.Core.List.{List, []}
 use lib.Dec.{eqb, ltb}
 use lib.ListN.{getD}

@@ -2,7 +2,6 @@
 -- is no link. They are the least over all walks of at most the count less one links, found by allowing one more link at
 -- a time; proofs/Shortest.antt shows that they are the only solution of the three facts that the word stands for.
 use Prim.Native.Nat.{ℕ, zero, suc, _-_, min}
-use mathlib.Core.Bool.{Bool}
 use mathlib.Core.List.{List, []}
 use lib.Dec.{eqb}
 use lib.ListN.{getD}

@@ -1,5 +1,5 @@
 -- What the pieces of the code's reaction come to, over arrays that hold a fit unit: together, the reaction of steps B to F.
-use Prim.Native.Nat.{ℕ, _<_, min}
+use Prim.Native.Nat.{ℕ, _≤_, _<_, min}
 use native.Mathlib.Nat.{zero-add}
 use mathlib.Core.Bool.{Bool, true, false, not, _&&_, _||_}
 use mathlib.Core.List.{List, [], _++_}
@@ -72,22 +72,23 @@ module _ (h : Held) where
     copies-held k l up = facts .copy-up k l (rw (row-at (h .costs) k l) at up)
 
     -- From these the engine gives the recomputed tree.
-    pub from-held : {through : List (List ℕ)} → through ≡ throughOf U
+    from-held : {through : List (List ℕ)} → through ≡ throughOf U
         → recomputedFrom N (h .me) (h .costs) (h .copies) through ≡ recomputed N (h .me) (U .costs) (U .copies)
     from-held {through} e =
         recomputed-from N (h .me) (h .costs) (h .copies) through (whole-of N (h .copies) (facts .high) (held-flat p)) (facts .me)
         costs-held copies-held (e ∙ sym through-held)
         ∙ recomputed-held
 
+    pub row-held : {through : List (List ℕ)} {row : List ℕ} → through ≡ throughOf U
+        → row ≡ laidRow (recomputedFrom N (h .me) (h .costs) (h .copies) through)
+        → row ≡ laidRow (recomputed N (h .me) (U .costs) (U .copies))
+    row-held e er = er ∙ ap laidRow (from-held e)
+
     -- The distances through neighbours that it gives.
     pub through-of : {through : List (List ℕ)} → through ≡ filledRows unitLimit (throughIn N (h .costs) (h .copies)) → through ≡ throughOf U
     through-of e = e ∙ through-whole N (h .costs) (h .copies) (facts .high) (held-flat p) ∙ through-held
 
-    -- The distances in a tree, and the successor sets.
-    pub distances-of : {row : List ℕ} (tree : List ℕ) → row ≡ filled unitLimit (counted N (tab N (distance N (h .me) (take N tree))))
-        → row ≡ filled unitLimit (tab N (distance N (h .me) (take N tree)))
-    distances-of tree e = e ∙ filled-counted N _ (facts .high)
-
+    -- The successor sets.
     pub sets-of : {sets : List ℕ} (through : List (List ℕ)) (feasible : List ℕ)
         → sets ≡ filled unitLimit (counted N (setsOver N through feasible))
         → sets ≡ filled unitLimit (setsOver N through feasible)
@@ -123,6 +124,11 @@ module _ (h : Held) where
   -- The distances in a tree, in an array.
   abbrev pub distancesIn : List ℕ → List ℕ
   distancesIn tree = filled unitLimit (tab N (distance N (h .me) tree))
+
+  -- The functions that find them count units up to the limit.
+  pub distances-counted : N ≤ unitLimit → (tree : List ℕ) {row : List ℕ} → row ≡ filled unitLimit (counted N (tab N (distance N (h .me) tree)))
+      → row ≡ distancesIn tree
+  distances-counted l tree e = e ∙ filled-counted N _ l
 
   -- A distance in it.
   distance-at : (tree : List ℕ) (j : ℕ) → j < N → at (distancesIn tree) j ≡ distance N (h .me) tree j

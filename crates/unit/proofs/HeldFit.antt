@@ -15,7 +15,7 @@ use Rattle.unit.specs.Noting.{Padded}
 use Rattle.unit.specs.Reacted.{FitHeld}
 use Rattle.state.specs.declared.held.Held.{Held}
 use Rattle.state.proofs.Holding.{holds-back, length-flat}
-use Rattle.unit.proofs.Noted.{padded-held, padded-shaped}
+use Rattle.unit.proofs.NotedArrays.{padded-held, padded-shaped}
 
 -- The count is at most the limit.
 pub held-high : {h : Held} → FitHeld h → h .count ≤ unitLimit

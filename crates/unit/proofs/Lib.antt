@@ -1,9 +1,11 @@
 -- Laws that several proofs of this crate cite.
-pub mod Calling
+mod AllMessages
 mod Composed
+mod ContentRefusals
+mod FinishedCalls
 mod HeldFit
+mod LaidMessages
+pub mod LinkRefusals
 pub mod MessageCalls
-mod Noted
-pub mod Refusals
-mod Sending
-mod SendingAll
+mod NotedArrays
+pub mod ReadyCalls

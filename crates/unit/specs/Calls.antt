@@ -1,17 +1,17 @@
--- A unit's calls as the code has them, and what step A makes of one; and the refusals of calls in parts: those about the table and the link's ends, those of each call after them, and
--- those of a message's content.
+-- A unit's calls as the code has them, and what step A makes of one; and the refusals of calls in parts: those about the table
+-- and the link's ends, those about the link, and those of a message's content.
 use Prim.Native.Nat.{ℕ, _<_}
-use mathlib.Core.Bool.{true, not, _&&_}
+use mathlib.Core.Bool.{Bool, true, not, _&&_}
 use mathlib.Core.List.{List}
 use mathlib.Core.Path.{_≡_}
 use lib.Dec.{eqb}
-use Rattle.ground.specs.Limits.{legalCost, legalCount}
+use Rattle.ground.specs.Limits.{legalCount}
 use Rattle.ground.specs.Refusal.{accepted, _gives_, _otherwise_}
 use Rattle.ground.specs.Rows.{at}
 use Rattle.rules.specs.Event.{noted, newOf, owedOf, messageRefusal}
 use Rattle.rules.specs.Hub.{HubCall, hubUp, hubCost, hubDown, hubMessage, eventOf, tooShort}
 use Rattle.rules.specs.Message.{messageOf, readable}
-use Rattle.rules.specs.Network.{badEnds}
+use Rattle.rules.specs.Network.{badEnds, linkRefusal}
 use Rattle.rules.specs.Tables.{unitFrom, fitUnitTable}
 use Rattle.rules.specs.Unit.{Unit, isNeighbour}
 use Rattle.state.specs.Holding.{heldOf, unitOf}
@@ -30,17 +30,13 @@ endRefusal words to =
 abbrev pub costIn : (words : List ℕ) (to : ℕ) → ℕ
 costIn words to = at (unitFrom words .costs) to
 
--- After them: 4, 5 and 7; 4, 6 and 7; 6 and 7.
-abbrev pub upRest : Unit → (room to cost : ℕ) → ℕ
-upRest u room to cost =
-    not (legalCost cost) gives 4 otherwise isNeighbour u to gives 5 otherwise tooShort room gives 7
+-- 4 to 7 after them, of a call about the link to a unit: whether its cost is legal, and whether it asks for the link.
+abbrev pub linkRest : Unit → (room to : ℕ) (legal asks : Bool) → ℕ
+linkRest u room to legal asks =
+    not legal gives 4 otherwise linkRefusal (isNeighbour u to) asks otherwise tooShort room gives 7
 
-abbrev pub costRest : Unit → (room to cost : ℕ) → ℕ
-costRest u room to cost =
-    not (legalCost cost) gives 4 otherwise not (isNeighbour u to) gives 6 otherwise tooShort room gives 7
-
-abbrev pub downRest : Unit → (room to : ℕ) → ℕ
-downRest u room to = not (isNeighbour u to) gives 6 otherwise tooShort room gives 7
+abbrev pub firstRefusal : (words : List ℕ) (room to : ℕ) (legal asks : Bool) → ℕ
+firstRefusal words room to legal asks = endRefusal words to otherwise linkRest (unitFrom words) room to legal asks
 
 -- 9 to 12, of bytes that came by a link that is up.
 abbrev pub contentRefusal : Unit → (from : ℕ) (bytes : List ℕ) → ℕ

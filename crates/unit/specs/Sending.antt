@@ -1,18 +1,18 @@
 -- The messages of an event as bytes in the lent buffer.
 use Prim.Native.Nat.{ℕ, _+_, _≤_, _<_}
 use mathlib.Core.Bool.{Bool, true}
-use mathlib.Core.List.{List, [], _∷_, _++_}
+use mathlib.Core.List.{List, [], _∷_}
 use mathlib.Core.Logic.{_≢_}
 use mathlib.Core.Path.{_≡_}
 use lib.Dec.{eqb}
-use lib.ListN.{length, take, drop}
+use lib.ListN.{length, take}
 use Rattle.ground.specs.Choice.{if_then_else_}
 use Rattle.ground.specs.Limits.{unitLimit, messageRoom, firmwareRoom, changeBase}
 use Rattle.ground.specs.Rows.{at, tab, filled, joined}
 use Rattle.tree.specs.Tree.{isTree}
 use Rattle.rules.specs.Event.{changed}
 use Rattle.rules.specs.Hub.{outgoingTo}
-use Rattle.rules.specs.Message.{Message, written, legalMessage}
+use Rattle.rules.specs.Message.{written, legalMessage}
 use Rattle.rules.specs.Unit.{Unit}
 use Rattle.state.specs.Holding.{unitOf}
 use Rattle.unit.specs.Reacted.{FitHeld}

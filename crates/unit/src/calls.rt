@@ -4,6 +4,7 @@ ghost use mathlib.Core.Path.{_≡_};
 ghost use Prim.Native.Nat.{_+_, _≤_};
 ghost use lib.ListN.{length};
 ghost use Rattle.ground.specs.Limits.{firmwareRoom};
+ghost use Rattle.ground.specs.Refusal.{answerBase};
 ghost use Rattle.rules.specs.Event.{reactionBy};
 ghost use Rattle.rules.specs.Hub.{tableAnswer, tableAfter, bufferAfter, outgoing, outgoingLaid};
 ghost use Rattle.rules.specs.Tables.{unitWords, laidUnit};
@@ -14,6 +15,7 @@ ghost use Rattle.unit.specs.declared.calls.Call.the-variants.{Message};
 use crate::event;
 use crate::noting;
 use crate::refusing;
+use ground::ANSWERED;
 use message::reader;
 use message::reader::Answer;
 use state::held;
@@ -94,7 +96,7 @@ fn note(unit: Held, call: Call, bytes: &[u8]) -> Noted
 // Steps B to F, and the table laid anew.
 fn finish(table: &mut [u32], unit: Held, was: bool, new: usize, owed: usize, out: &mut [u8]) -> u32
     requires { ⌜ FitHeld unit × (length (now table) ≡ unitWords) × ((owed ≡ unit .me) → ⊥) × (firmwareRoom ≤ length (now out)) ⌝ }
-    ensures answer { λ r. ⌜ r ≡ 100 + length (outgoing (reactionBy (unitOf unit) was new owed)) ⌝ }
+    ensures answer { λ r. ⌜ r ≡ answerBase + length (outgoing (reactionBy (unitOf unit) was new owed)) ⌝ }
     ensures table { λ r. ⌜ now (table .exit) ≡ laidUnit (reactionBy (unitOf unit) was new owed .unit) ⌝ }
     ensures sent { λ r. ⌜ now (out .exit) ≡ outgoingLaid (reactionBy (unitOf unit) was new owed) (now (out .entry)) ⌝ }
 {
@@ -102,7 +104,7 @@ fn finish(table: &mut [u32], unit: Held, was: bool, new: usize, owed: usize, out
     let after = reacted.unit;
     let successors = reacted.successors;
     held::put_unit(table, after, successors);
-    100 + (reacted.used as u32)
+    ANSWERED + (reacted.used as u32)
 }
 
 // The unit's answer to a call: the lowest refusal that applies, or 100 plus the bytes used.

@@ -5,12 +5,11 @@ ghost use Prim.Native.Nat.{min, _≤_};
 ghost use lib.ListN.{length, take};
 ghost use Rattle.ground.specs.Choice.{if_then_else_};
 ghost use Rattle.ground.specs.Limits.{unitLimit, firmwareRoom};
-ghost use Rattle.ground.specs.Rows.{tab, same, filled};
+ghost use Rattle.ground.specs.Rows.{same, filled};
 ghost use Rattle.rules.specs.Event.{changed as isChangedTree, isAlone};
 ghost use Rattle.rules.specs.Tables.{laidRow};
 ghost use Rattle.rules.specs.Unit.{isActive};
 ghost use Rattle.tree.specs.Recompute.{recomputed as recomputedTree};
-ghost use Rattle.tree.specs.Tree.{distance};
 ghost use Rattle.state.specs.Holding.{unitOf};
 ghost use Rattle.rules.specs.Event.{newFeasible};
 ghost use Rattle.unit.specs.Reacted.{FitHeld, throughOf, loweringFor, loweredTo, loweredRow, waitTo, awaitedRow, reactedOf, reactedOut};
@@ -20,6 +19,7 @@ use recomputing::heads;
 use recomputing::recompute;
 use recomputing::successors;
 use recomputing::through;
+use slices::numbers;
 use state::held;
 use state::held::Held;
 
@@ -35,16 +35,8 @@ fn is_alone(unit: Held) -> bool
     requires { ⌜ unit .count ≤ unitLimit ⌝ }
     ensures { λ r. ⌜ r ≡ isAlone (unitOf unit) ⌝ }
 {
-    let count = unit.count;
     let costs = unit.costs;
-    let mut k = 0;
-    while k < count {
-        if costs[k] != 0 {
-            return false;
-        }
-        k += 1;
-    }
-    true
+    numbers::is_nothing(&costs[..unit.count])
 }
 
 // Whether two rows differ below the count.
@@ -52,14 +44,7 @@ fn is_changed(count: usize, old: [u32; UNITS], new: [u32; UNITS]) -> bool
     requires { ⌜ count ≤ unitLimit ⌝ }
     ensures { λ r. ⌜ r ≡ not (same (take count old) (take count new)) ⌝ }
 {
-    let mut j = 0;
-    while j < count {
-        if old[j] != new[j] {
-            return true;
-        }
-        j += 1;
-    }
-    false
+    !numbers::is_same(&old[..count], &new[..count])
 }
 
 // The tree: kept, or recomputed.

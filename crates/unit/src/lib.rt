@@ -7,5 +7,5 @@
 pub mod calls;
 mod event;
 mod noting;
-mod refusing;
+pub mod refusing;
 mod send;

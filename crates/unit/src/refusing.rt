@@ -1,11 +1,10 @@
 // The refusals of a unit's calls, in the order of their numbers: the lowest that applies counts, and 0 stands for none.
 ghost use mathlib.Core.Path.{_≡_};
 ghost use Prim.Native.Nat.{_<_};
-ghost use lib.ListN.{length};
-ghost use Rattle.rules.specs.Hub.{hubUp, hubCost, hubDown, hubMessage, tableRefusal};
-ghost use Rattle.rules.specs.Network.{badEnds};
+ghost use Rattle.rules.specs.Hub.{hubMessage, tableRefusal};
+ghost use Rattle.rules.specs.Network.{badEnds, linkRefusal};
 ghost use Rattle.state.specs.Holding.{unitOf};
-ghost use Rattle.unit.specs.Calls.{endRefusal, costIn, contentRefusal, callOf};
+ghost use Rattle.unit.specs.Calls.{endRefusal, costIn, firstRefusal, contentRefusal, callOf};
 ghost use Rattle.unit.specs.Reacted.{FitHeld};
 use crate::calls::Call;
 use crate::noting;
@@ -51,54 +50,31 @@ fn cost_to(table: &[u32], to: u32) -> u32
     table[held::COSTS + (to as usize)]
 }
 
-// The lowest refusal of a link up, or 0.
-fn up_refusal(table: &[u32], to: u32, cost: u32, room: usize) -> u32
-    ensures { λ r. ⌜ r ≡ tableRefusal (now (table .entry)) room (hubUp to cost) ⌝ }
+// Refusal 5 of a call that asks for a link that is up, 6 of another about one that is not, or 0.
+pub fn link_refusal(up: bool, asks: bool) -> u32
+    ensures { λ r. ⌜ r ≡ linkRefusal up asks ⌝ }
 {
-    let number = end_refusal(table, to);
-    if number != 0 {
-        return number;
+    if asks {
+        if up { 5 } else { 0 }
+    } else {
+        if up { 0 } else { 6 }
     }
-    if !is_legal_cost(cost) {
-        return 4;
-    }
-    if cost_to(table, to) != 0 {
-        return 5;
-    }
-    if room < FIRMWARE_ROOM {
-        return 7;
-    }
-    0
 }
 
-fn cost_refusal(table: &[u32], to: u32, cost: u32, room: usize) -> u32
-    ensures { λ r. ⌜ r ≡ tableRefusal (now (table .entry)) room (hubCost to cost) ⌝ }
+// Refusals 2 to 7 of a call about the link to a unit, or 0: whether its cost is legal, and whether it asks for the link.
+fn first_refusal(table: &[u32], to: u32, legal: bool, asks: bool, room: usize) -> u32
+    ensures { λ r. ⌜ r ≡ firstRefusal (now (table .entry)) room to legal asks ⌝ }
 {
     let number = end_refusal(table, to);
     if number != 0 {
         return number;
     }
-    if !is_legal_cost(cost) {
+    if !legal {
         return 4;
     }
-    if cost_to(table, to) == 0 {
-        return 6;
-    }
-    if room < FIRMWARE_ROOM {
-        return 7;
-    }
-    0
-}
-
-fn down_refusal(table: &[u32], to: u32, room: usize) -> u32
-    ensures { λ r. ⌜ r ≡ tableRefusal (now (table .entry)) room (hubDown to) ⌝ }
-{
-    let number = end_refusal(table, to);
-    if number != 0 {
-        return number;
-    }
-    if cost_to(table, to) == 0 {
-        return 6;
+    let link = link_refusal(cost_to(table, to) != 0, asks);
+    if link != 0 {
+        return link;
     }
     if room < FIRMWARE_ROOM {
         return 7;
@@ -145,7 +121,7 @@ fn content_refusal(unit: Held, from: usize, bytes: &[u8]) -> u32
 fn message_refusal(table: &[u32], from: u32, bytes: &[u8], room: usize) -> u32
     ensures { λ r. ⌜ r ≡ tableRefusal (now (table .entry)) room (hubMessage from (now (bytes .entry))) ⌝ }
 {
-    let number = down_refusal(table, from, room);
+    let number = first_refusal(table, from, true, false, room);
     if number != 0 {
         return number;
     }
@@ -157,9 +133,9 @@ pub(crate) fn refusal(table: &[u32], call: Call, bytes: &[u8], room: usize) -> u
     ensures { λ r. ⌜ r ≡ tableRefusal (now (table .entry)) room (callOf call (now (bytes .entry))) ⌝ }
 {
     match call {
-        Call::Up { to, cost } => up_refusal(table, to, cost, room),
-        Call::Cost { to, cost } => cost_refusal(table, to, cost, room),
-        Call::Down { to } => down_refusal(table, to, room),
+        Call::Up { to, cost } => first_refusal(table, to, is_legal_cost(cost), true, room),
+        Call::Cost { to, cost } => first_refusal(table, to, is_legal_cost(cost), false, room),
+        Call::Down { to } => first_refusal(table, to, true, false, room),
         Call::Message { from } => message_refusal(table, from, bytes, room),
     }
 }

@@ -10,14 +10,14 @@ use lib.Dec.{eqb, ltb}
 use lib.ListN.{length}
 use Rattle.ground.proofs.Refusal.{first-counts, rest-counts}
 use Rattle.ground.specs.Limits.{queueRoom}
-use Rattle.ground.specs.Refusal.{accepted, _gives_, _otherwise_}
+use Rattle.ground.specs.Refusal.{accepted, _gives_, _otherwise_, answerBase}
 use Rattle.ground.specs.Rows.{some}
 use Rattle.rules.specs.Network.{Network, Call, queue, outcome, overflows}
 use Rattle.rules.specs.NetworkTable.{networkRefusal, networkAnswer, wordsAfter, bytesAfter}
 use Rattle.rules.specs.Tables.{networkFrom}
 use Rattle.ground.proofs.Rows.{some-at}
 use Rattle.ground.proofs.Tests.{not-yes, not-both, if-false}
-use Rattle.rules.proofs.Laid.{ShapedNetwork}
+use Rattle.rules.proofs.LaidNetwork.{ShapedNetwork}
 use Rattle.events.proofs.HeldNetwork.{Tabled}
 
 -- A test that fails of each unit below n holds of none.
@@ -69,7 +69,7 @@ module _ (words bytes : List ℕ) (call : Call) where
         refused (sym (parts ∙ rest-counts early _ none ∙ ap (λ (t : Bool). t gives 13) full)) (λ z. omega arith)
 
     -- None: the tables hold the result.
-    pub done : early ≡ accepted → {n : ℕ} {after left : List ℕ} → Tabled n after left result → Answered 100 after left
+    pub done : early ≡ accepted → {n : ℕ} {after left : List ℕ} → Tabled n after left result → Answered answerBase after left
     unfolding wordsAfter bytesAfter
     done none t =
         let free : networkRefusal words bytes call ≡ accepted =

@@ -1,5 +1,5 @@
 -- Each call whose first refusals are passed: an event at one unit, or at each end of a link.
-use Prim.Native.Nat.{ℕ, _<_}
+use Prim.Native.Nat.{ℕ}
 use mathlib.Core.Bool.{Bool, true, false, _&&_}
 use mathlib.Core.List.{List, []}
 use mathlib.Core.Logic.{_≢_, inl, inr}
@@ -14,9 +14,9 @@ use Rattle.rules.specs.NetworkTable.{networkRefusal}
 use Rattle.rules.specs.Tables.{networkFrom, fitTables}
 use Rattle.rules.specs.Unit.{Unit}
 use Rattle.rules.proofs.Fit.{FitNetwork, fit-tables-of, fit-network-shaped}
-use Rattle.rules.proofs.Laid.{ShapedNetwork}
+use Rattle.rules.proofs.LaidNetwork.{ShapedNetwork}
 use Rattle.steps.proofs.AcceptedCalls.{Ends, AcceptedUp, AcceptedCost, AcceptedDown}
-use Rattle.steps.proofs.Cases.{by-equal}
+use Rattle.ground.proofs.Cases.{by-equal}
 use Rattle.steps.proofs.NetworkLists.{Shape, queue-elsewhere, unit-elsewhere, shape-queue, emptied, emptied-back, emptied-there}
 use Rattle.steps.proofs.OrderlyCalls.{turned}
 use Rattle.steps.proofs.SentMessages.{down-silent}

@@ -6,12 +6,12 @@ use mathlib.Core.Bool.{Bool, true, false, not, _&&_}
 use mathlib.Core.List.{List}
 use mathlib.Core.Logic.{_≢_, inl}
 use mathlib.Core.Path.{_≡_, refl, sym, ap, _∙_}
-use borrow.Author.Tests.{eqb-true, eq-eqb, ne-eqb}
+use borrow.Author.Tests.{eq-eqb, ne-eqb}
 use lib.Dec.{eqb}
 use lib.ListN.{length, drop}
 use Rattle.ground.proofs.Refusal.{first-counts, rest-counts}
 use Rattle.ground.specs.Limits.{firmwareRoom}
-use Rattle.ground.specs.Refusal.{accepted, _gives_, _otherwise_}
+use Rattle.ground.specs.Refusal.{accepted, _gives_, _otherwise_, answerBase}
 use Rattle.ground.specs.Rows.{at}
 use Rattle.tree.specs.Recompute.{copyOf}
 use Rattle.tree.specs.Tree.{isTree}
@@ -27,10 +27,12 @@ use Rattle.ground.proofs.Each.{each-at}
 use Rattle.ground.proofs.Lists.{parts}
 use Rattle.ground.proofs.Tests.{if-true, if-false}
 use Rattle.rules.proofs.Fit.{FitNetwork, fit-tables-of, fit-network-shaped}
-use Rattle.rules.proofs.Laid.{noMessage, ShapedNetwork}
+use Rattle.rules.proofs.Laid.{noMessage}
+use Rattle.rules.proofs.LaidNetwork.{ShapedNetwork}
+use Rattle.rules.proofs.QueuedMessages.{queued-legal, queued-sender}
 use Rattle.rules.proofs.Written.{reads-back}
 use Rattle.steps.proofs.AcceptedCalls.{Ends}
-use Rattle.steps.proofs.Cases.{by-equal}
+use Rattle.ground.proofs.Cases.{by-equal}
 use Rattle.steps.proofs.NetworkLists.{queue-elsewhere, shape-queue}
 use Rattle.steps.proofs.OrderlyCalls.{turned, orderly-of}
 use Rattle.queues.specs.Queue.{queueOf}
@@ -51,14 +53,14 @@ use Rattle.network.proofs.calls.FirstRefusals.{undelivered, deliver-par
 use Rattle.network.proofs.calls.OneEvent.{One}
 
 -- The numbers 10 to 12 are below 100.
-low-number : (x y z : Bool) → (x gives 10 otherwise y gives 11 otherwise z gives 12) < 100
+low-number : (x y z : Bool) → (x gives 10 otherwise y gives 11 otherwise z gives 12) < answerBase
 low-number true y z = omega arith
 low-number false true z = omega arith
 low-number false false true = omega arith
 low-number false false false = omega arith
 
 -- So are the refusals of a message's content.
-message-low : (u : Unit) (m : Message) → messageRefusal u m < 100
+message-low : (u : Unit) (m : Message) → messageRefusal u m < answerBase
 unfolding messageRefusal
 message-low u m =
     low-number (holdsAcknowledgment m && not (awaits u (m .sender)))
@@ -183,10 +185,10 @@ module _ (words bytes : List ℕ) (a b : ℕ) {number : ℕ} (first : number ≡
 
       -- The unit refuses its content alone.
       content : hubRefusal u firmwareRoom (hubMessage a (written m)) ≡ messageRefusal u m
-      unfolding fitQueued
       content =
-          refuses-message net f b a (turned ends) back m (search (parts, proper))
-          (eqb-true (m .sender) a (search (parts, proper)))
+          refuses-message net f b a (turned ends) back m
+          (queued-legal (net .count) a m proper)
+          (queued-sender (net .count) a m proper)
 
       -- So it answers that refusal, or 100 and more.
       answers : told .answer
@@ -204,7 +206,7 @@ module _ (words bytes : List ℕ) (a b : ℕ) {number : ℕ} (first : number ≡
       answers-refusal d = answers ∙ if-false _ _ _ (ne-eqb (messageRefusal u m) accepted d)
 
       -- Else it answers 100 or more.
-      answers-more : messageRefusal u m ≡ accepted → 100 ≤ told .answer
+      answers-more : messageRefusal u m ≡ accepted → answerBase ≤ told .answer
       answers-more z = omega (arith, answers ∙ if-true _ _ _ (eq-eqb (messageRefusal u m) accepted z))
 
       -- What the network refuses then is that.
@@ -212,14 +214,14 @@ module _ (words bytes : List ℕ) (a b : ℕ) {number : ℕ} (first : number ≡
       left = rw (ne-eqb (length messages) 0 (λ z. omega (arith, begins .some)))
 
       -- 10 to 12.
-      refused-content : told .answer < 100 → Answered words bytes (deliver a b) (told .answer) words bytes
+      refused-content : told .answer < answerBase → Answered words bytes (deliver a b) (told .answer) words bytes
       refused-content low =
           by-equal (messageRefusal u m) accepted
           (λ z. absurd (omega (arith, answers-more z)))
           (λ d. undone (answers-refusal d ∙ sym left) (λ z. d (sym (answers-refusal d) ∙ z)))
 
       -- Else the delivery is an event at b, in the network whose queue has lost its first message.
-      one-event : 100 ≤ told .answer → One words bytes (deliver a b) (firstTaken net a b) b told
+      one-event : answerBase ≤ told .answer → One words bytes (deliver a b) (firstTaken net a b) b told
       unfolding networkRefusal networkFrom outcome happens withQueue
       one-event high =
           let none : messageRefusal u m ≡ accepted =
@@ -241,10 +243,10 @@ module _ (words bytes : List ℕ) (a b : ℕ) {number : ℕ} (first : number ≡
           }
 
     -- A refusal of the message.
-    pub refused-told : told .answer < 100 → Answered words bytes (deliver a b) (told .answer) words bytes
+    pub refused-told : told .answer < answerBase → Answered words bytes (deliver a b) (told .answer) words bytes
     refused-told low = by-equal (at found 0) 0 refused-empty (λ some. refused-content some low)
 
     -- Else the delivery is that event.
-    pub deliver-one : 100 ≤ told .answer → One words bytes (deliver a b) (firstTaken net a b) b told
+    pub deliver-one : answerBase ≤ told .answer → One words bytes (deliver a b) (firstTaken net a b) b told
     deliver-one high =
         by-equal (at found 0) 0 (λ none. absurd (omega (arith, silent none))) (λ some. one-event some high)

@@ -14,17 +14,17 @@ use Rattle.ground.specs.Refusal.{accepted, _gives_, _otherwise_}
 use Rattle.ground.specs.Rows.{at}
 use Rattle.rules.specs.Event.{messageRefusal}
 use Rattle.rules.specs.Network.{Network, up, cost, down, deliver, unitAt, queue, isUp, nextMessage, fresh, badEnds}
-use Rattle.rules.specs.Network.{overflows, refusalOf}
+use Rattle.rules.specs.Network.{linkRefusal, overflows, refusalOf}
 use Rattle.rules.specs.Tables.{networkFrom, fitTables}
 use Rattle.fitness.specs.UnitTables.{isLinked}
 use Rattle.ground.proofs.Refusal.{gives-none, otherwise-none, first-counts, rest-counts, in-a-row}
 use Rattle.rules.proofs.Fit.{fit-tables-of}
 use Rattle.steps.proofs.AcceptedCalls.{Ends, AcceptedUp, AcceptedCost, AcceptedDown, good-ends, accepted-up, accepted-cost}
 use Rattle.steps.proofs.AcceptedCalls.{accepted-down}
-use Rattle.steps.proofs.Cases.{by-test}
+use Rattle.ground.proofs.Cases.{by-test}
 use Rattle.fitness.proofs.FitTables.{table-there}
 use Rattle.fitness.proofs.PartsRead.{linked}
-use Rattle.network.specs.FirstRefusals.{endsRefusal, linkRefusal, firstRefusal}
+use Rattle.network.specs.FirstRefusals.{endsRefusal, firstRefusal}
 
 module _ (words bytes : List ℕ) (a b : ℕ) where
   -- The network that the tables hold.
@@ -67,14 +67,14 @@ module _ (words bytes : List ℕ) (a b : ℕ) where
       ap (λ (x : ℕ). unfit otherwise x) (in-a-row wrongEnds own rest) ∙ in-a-row unfit (wrongEnds otherwise own) rest
 
   -- The first refusals, and then the rest.
-  first-parts : (legal opens : Bool) (rest : ℕ)
+  first-parts : (legal asks : Bool) (rest : ℕ)
       → (unfit otherwise wrongEnds otherwise not legal gives 4
-      otherwise linkRefusal (isUp net a b) opens otherwise rest)
-      ≡ (firstRefusal words bytes a b legal opens otherwise rest)
-  first-parts legal opens rest =
+      otherwise linkRefusal (isUp net a b) asks otherwise rest)
+      ≡ (firstRefusal words bytes a b legal asks otherwise rest)
+  first-parts legal asks rest =
       let costs : ℕ = not legal gives 4 in
-      let link : ℕ = linkRefusal (isLinked words a b) opens in
-      either-word (λ t. costs otherwise linkRefusal t opens otherwise rest)
+      let link : ℕ = linkRefusal (isLinked words a b) asks in
+      either-word (λ t. costs otherwise linkRefusal t asks otherwise rest)
       ∙ ap (λ (x : ℕ). unfit otherwise wrongEnds otherwise x) (in-a-row costs link rest)
       ∙ grouped (costs otherwise link) rest
 

@@ -3,7 +3,7 @@ use Prim.Native.Nat.{ℕ}
 use mathlib.Core.Bool.{Bool, true, false}
 use mathlib.Core.List.{List}
 use mathlib.Core.Path.{_≡_, refl, sym, ap, _∙_}
-use Rattle.ground.specs.Refusal.{accepted, _gives_, _otherwise_}
+use Rattle.ground.specs.Refusal.{accepted, _gives_, _otherwise_, answerBase}
 use Rattle.ground.specs.Rows.{at}
 use Rattle.rules.specs.Event.{Reaction}
 use Rattle.rules.specs.Network.{Network, Call, reacted, outcome, overflows}
@@ -13,7 +13,7 @@ use Rattle.fitness.specs.UnitTables.{withTable}
 use Rattle.events.specs.Happening.{findsRoom, isSent, poppedIf, oneAnswer, oneWords, oneBytes}
 use Rattle.events.specs.declared.tell.Told.{Told}
 use Rattle.ground.proofs.Tests.{if-true, if-false}
-use Rattle.steps.proofs.Cases.{by-test}
+use Rattle.ground.proofs.Cases.{by-test}
 use Rattle.steps.proofs.NetworkLists.{Shape, queue-from}
 use Rattle.events.proofs.HeldNetwork.{Tabled, Trial, room-told, happened}
 use Rattle.events.proofs.MessageRoom.{fits, overfull}
@@ -56,7 +56,7 @@ module _ {words bytes : List ℕ} {call : Call} {base : Network} {i : ℕ} {told
 
   -- Else the event happens, and the call is done.
   happy : findsRoom bytes n i told ≡ true
-      → Answered words bytes call 100 (withTable words i (told .table)) (isSent (poppedIf pops bytes other i) n i told)
+      → Answered words bytes call answerBase (withTable words i (told .table)) (isSent (poppedIf pops bytes other i) n i told)
   happy e =
       done words bytes call (k .early) (k .parts) (k .none) {n = n}
       (rw (k .leads)

@@ -4,7 +4,7 @@ use mathlib.Core.Bool.{Bool, true, false, _&&_}
 use mathlib.Core.List.{List, _++_}
 use mathlib.Core.Logic.{_≢_, inl}
 use mathlib.Core.Path.{_≡_, refl, sym, ap, ap₂, _∙_}
-use Rattle.ground.specs.Refusal.{accepted, _gives_, _otherwise_}
+use Rattle.ground.specs.Refusal.{accepted, _gives_, _otherwise_, answerBase}
 use Rattle.ground.specs.Rows.{at}
 use Rattle.rules.specs.Event.{Reaction}
 use Rattle.rules.specs.Message.{Message}
@@ -15,7 +15,7 @@ use Rattle.fitness.specs.UnitTables.{withTable}
 use Rattle.events.specs.Happening.{isSent, emptiedIf, bothFind, bothAnswer, bothWords, bothBytes}
 use Rattle.events.specs.declared.tell.Told.{Told}
 use Rattle.ground.proofs.Tests.{both, if-true, if-false}
-use Rattle.steps.proofs.Cases.{by-test}
+use Rattle.ground.proofs.Cases.{by-test}
 use Rattle.steps.proofs.NetworkLists.{Shape, queue-from, queue-of-other, shape-reacted}
 use Rattle.queues.proofs.SentParcels.{sentBy}
 use Rattle.events.proofs.HeldNetwork.{Tabled, Trial, room-told, happened}
@@ -136,7 +136,7 @@ module _ {words bytes : List ℕ} {call : Call} {base : Network} {a b : ℕ} {on
           ∙ both-fit .1
 
       -- The call is done.
-      happy : Answered words bytes call 100 (withTable (withTable words a (one .table)) b (two .table))
+      happy : Answered words bytes call answerBase (withTable (withTable words a (one .table)) b (two .table))
           (isSent (isSent held n a one) n b two)
       happy =
           done words bytes call (k .early) (k .parts) (k .none) {n = n}

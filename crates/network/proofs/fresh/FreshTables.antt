@@ -20,7 +20,7 @@ use Rattle.rules.specs.Tables.{queueBytes, networkBytes, laidQueue, laidQueues}
 use Rattle.rules.specs.Unit.{freshUnit}
 use Rattle.rules.proofs.Laid.{laid-unit-length}
 use Rattle.steps.proofs.Fresh.{fresh-shaped}
-use Rattle.queues.proofs.Overlaid.{paste-filled}
+use Rattle.slices.proofs.Overlaid.{paste-filled}
 use Rattle.fitness.specs.UnitTables.{withTable}
 use Rattle.fitness.proofs.TableThere.{There, put-is-paste}
 

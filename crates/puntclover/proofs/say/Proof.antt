@@ -1,4 +1,4 @@
--- `puntclover::say` is safe: the line lies within its room, and the answer within what is left of `out`.
+-- `puntclover::say` is safe: the line lies within its room.
 use borrow.Author.Needs.{needs}
 use native.Mathlib.Omega.{arith}
 use lib.ListN.{length-take}
@@ -9,6 +9,5 @@ pub say-spec : {M : Type 1} → statement M
 say-spec =
     tie.close
     (tie.spec
-    (λ c. search needs) (λ c. simp length-take (omega arith)) (λ c. search needs) (λ c. search needs)
-    (λ c. search needs) (λ c. search needs) (λ c. search needs) (λ c. search needs) (λ c. search needs)
-    (λ c. search needs) (λ c. search needs) (λ c. search needs))
+    (λ c. search needs) (λ c. simp length-take (omega arith)) (λ c κs. search needs) (λ c κs. search needs)
+    (λ c. search needs) (λ c. search needs) (λ c. search needs) (λ c. search needs))

@@ -14,7 +14,7 @@ use Rattle.rules.specs.Tables.{unitWords, networkWords, networkBytes, queueAt, 
 use Rattle.ground.proofs.Limits.{count-legal, count-low, count-high}
 use Rattle.ground.proofs.Parts.{to-end}
 use Rattle.ground.proofs.Tests.{both-of}
-use Rattle.queues.specs.Slices.{isNothing}
+use Rattle.slices.specs.Slices.{isNothing}
 use Rattle.fitness.specs.PartsFit.{fitTableAt, fitSender, fitParts}
 use Rattle.fitness.proofs.fit.are_parts_fit.Statement.{statement}
 use Rattle.fitness.proofs.fit.are_parts_fit.Tie as tie
@@ -67,12 +67,12 @@ units-tested : (c : tie.After-fit-units)
 units-tested c = sym (c .fit-units .ensures)
 
 -- So is the test of the numbers after them.
-rest-tested : (c : tie.After-is-empty)
+rest-tested : (c : tie.After-is-nothing)
     → isNothing (drop (at (wordsAt (c .before .before .before)) 0 * unitWords) (wordsAt (c .before .before .before)))
-    ≡ c .is-empty .result
+    ≡ c .is-nothing .result
 rest-tested c =
     let words = wordsAt (c .before .before .before) in
-    sym (c .is-empty .ensures ∙ ap isNothing (to-end words (at words 0 * unitWords)))
+    sym (c .is-nothing .ensures ∙ ap isNothing (to-end words (at words 0 * unitWords)))
 
 -- The place after the units' test, as the place after the senders' test sees it.
 abbrev fitted : tie.After-fit-senders → tie.After-fit-units
@@ -139,7 +139,7 @@ returns-8 c =
     let words = wordsAt (passed .before) in
     let bytes = bytesAt (passed .before) in
     let same : at words 0 * (unitLimit * queueBytes) ≡ queueAt (at words 0) 0 = omega arith in
-    c .is-nothing .ensures
+    c .is-nothing2 .ensures
     ∙ ap isNothing (to-end bytes (at words 0 * (unitLimit * queueBytes)) ∙ ap (λ (k : ℕ). drop k bytes) same)
     ∙ sym (rw (
       counted (passed .before .before .before),

@@ -10,7 +10,7 @@ use Rattle.rules.specs.Tables.{queueBytes, queueAt, networkBytes}
 use Rattle.rules.proofs.Laid.{part-length}
 use Rattle.fitness.specs.PartsFit.{fitBytes, fitPair}
 use Rattle.fitness.specs.UnitTables.{isLinked}
-use Rattle.queues.proofs.Stretches.{lent}
+use Rattle.slices.proofs.Stretches.{lent}
 use Rattle.fitness.proofs.fit.fit_pair.Statement.{statement}
 use Rattle.fitness.proofs.fit.fit_pair.Tie as tie
 

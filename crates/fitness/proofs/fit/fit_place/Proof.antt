@@ -13,10 +13,10 @@ use Rattle.ground.specs.Limits.{entryLimit, legalCount}
 use Rattle.ground.specs.Rows.{at}
 use Rattle.ground.proofs.Limits.{count-legal}
 use Rattle.ground.proofs.Parts.{to-end}
-use Rattle.rules.specs.Message.{messageOf, readable}
-use Rattle.queues.specs.Slices.{isNothing}
+use Rattle.rules.specs.Message.{messageOf}
+use Rattle.message.proofs.ReaderAnswers.{Taken, taken, unread}
+use Rattle.slices.specs.Slices.{isNothing}
 use Rattle.fitness.specs.PartsFit.{lengthIn, fitPlace}
-use Rattle.fitness.proofs.ReadPlace.{taken, unread}
 use Rattle.fitness.proofs.fit.fit_place.Statement.{statement}
 use Rattle.fitness.proofs.fit.fit_place.Tie as tie
 
@@ -44,10 +44,15 @@ legal c = count-legal (start c .args .count) (start c .pre .0) (start c .pre .1)
 abbrev ranged : tie.After-known-told → tie.Else1
 ranged c = c .before .before .before .before .before
 
--- The bytes are a message, and the sender that was read is its.
+-- The bytes are a message, and what was read is its.
 got : (c : tie.After-known-told)
-    → (readable (start (ranged c) .args .count) (bytesAt (ranged c)) ≡ true)
-    × (c .before .answer .given .0 .1 .0 ≡ messageOf (bytesAt (ranged c)) .sender)
+    → Taken
+    (start (ranged c) .args .count)
+    (bytesAt (ranged c))
+    (c .before .answer .given .0 .0)
+    (c .before .answer .given .0 .1 .0)
+    (c .before .answer .given .0 .1 .1 .0)
+    (c .before .before .before .read .result .changes)
 got c =
     let read = c .before .before .before .read in
     taken (start (ranged c) .args .count) (bytesAt (ranged c)) (read .result) (legal (ranged c)) (read .ensures)
@@ -56,7 +61,7 @@ got c =
 -- Its sender is the place's second byte.
 sent : (c : tie.After-known-told) → c .before .answer .given .0 .1 .0 ≡ at (placeAt (ranged c)) 1
 unfolding messageOf
-sent c = got c .1 ∙ getD-take (lengthIn (placeAt (ranged c))) (placeAt (ranged c)) 1 0 (omega arith)
+sent c = got c .of-sender ∙ getD-take (lengthIn (placeAt (ranged c))) (placeAt (ranged c)) 1 0 (omega arith)
 
 cast-entries : tie.Need-cast-entries
 cast-entries c = omega (arith, c .shared-slice-known2 .given 3)
@@ -86,7 +91,7 @@ returns-3 c =
     let told = c .before in
     sym (rw (
       few (ranged told),
-      got told .0,
+      got told .legible,
       ne-eqb (at (placeAt (ranged told)) 1) (start (ranged told) .args .sender) (λ e. c .if2 .taken (sent told ∙ e)),
     ))
 
@@ -99,7 +104,7 @@ returns-4 c =
     ∙ ap isNothing (to-end place (lengthIn place))
     ∙ sym (rw (
       few (ranged told),
-      got told .0,
+      got told .legible,
       eq-eqb (at place 1) (start (ranged told) .args .sender) (sym (sent told) ∙ c .before .before .if2 .left),
     ))
 

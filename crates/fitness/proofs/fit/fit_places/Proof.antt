@@ -13,7 +13,7 @@ use Rattle.rules.proofs.Laid.{part-length}
 use Rattle.fitness.specs.PartsFit.{fitPlace}
 use Rattle.fitness.proofs.EveryLoop.{every-stops, every-goes-on, every-ends}
 use Rattle.queues.proofs.QueueThere.{held-most}
-use Rattle.queues.proofs.Stretches.{lent}
+use Rattle.slices.proofs.Stretches.{lent}
 use Rattle.fitness.proofs.fit.fit_places.Statement.{statement}
 use Rattle.fitness.proofs.fit.fit_places.Tie as tie
 

@@ -15,7 +15,7 @@ use Rattle.rules.specs.Tables.{part}
 use Rattle.ground.proofs.Parts.{to-end}
 use Rattle.ground.proofs.Tests.{either-left, either-right, neither-of}
 use Rattle.queues.specs.Queue.{heldIn}
-use Rattle.queues.specs.Slices.{isNothing}
+use Rattle.slices.specs.Slices.{isNothing}
 use Rattle.queues.proofs.QueueThere.{held-most}
 use Rattle.fitness.specs.PartsFit.{fitPlace, fitBytes}
 use Rattle.fitness.proofs.fit.fit_queue.Statement.{statement}

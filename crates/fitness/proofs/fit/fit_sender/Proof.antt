@@ -7,7 +7,7 @@ use borrow.Author.Tests.{not-true, not-false}
 use Rattle.ground.specs.Limits.{unitLimit}
 use Rattle.ground.specs.Rows.{every}
 use Rattle.rules.specs.Tables.{queueBytes, queueAt, part}
-use Rattle.queues.specs.Slices.{isNothing}
+use Rattle.slices.specs.Slices.{isNothing}
 use Rattle.fitness.specs.PartsFit.{fitPair, fitSender}
 use Rattle.fitness.proofs.fit.fit_sender.Statement.{statement}
 use Rattle.fitness.proofs.fit.fit_sender.Tie as tie

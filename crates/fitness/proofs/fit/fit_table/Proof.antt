@@ -5,7 +5,7 @@ use borrow.Author.Needs.{needs}
 use borrow.Author.Tests.{not-true, not-false, eq-eqb, ne-eqb}
 use Rattle.ground.specs.Rows.{at}
 use Rattle.rules.specs.Tables.{unitWords, part, fitUnitTable}
-use Rattle.queues.proofs.Stretches.{lent}
+use Rattle.slices.proofs.Stretches.{lent}
 use Rattle.fitness.specs.PartsFit.{fitTableAt}
 use Rattle.fitness.proofs.fit.fit_table.Statement.{statement}
 use Rattle.fitness.proofs.fit.fit_table.Tie as tie

@@ -1,10 +1,9 @@
 -- `fitness::tables::load` meets its contract: zeros where there is no table, else its part of all laid over them.
 use Prim.Native.Nat.{_*_}
-use native.Mathlib.Omega.{arith}
 use mathlib.Core.Path.{refl, _∙_}
 use borrow.Author.Needs.{needs}
 use Rattle.rules.specs.Tables.{unitWords}
-use Rattle.queues.proofs.Stretches.{lent}
+use Rattle.slices.proofs.Stretches.{lent}
 use Rattle.fitness.proofs.TableThere.{other-length, no-unit, load-none, load-there}
 use Rattle.fitness.proofs.tables.load.Statement.{statement}
 use Rattle.fitness.proofs.tables.load.Tie as tie

@@ -1,5 +1,4 @@
 -- `fitness::tables::put` meets its contract: nothing changes where there is no table, else the other is laid over its part.
-use native.Mathlib.Omega.{arith}
 use mathlib.Core.Path.{_≡_, refl, _∙_}
 use borrow.Author.Needs.{needs}
 use lib.ListN.{length}

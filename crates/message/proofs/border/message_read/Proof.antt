@@ -1,9 +1,8 @@
 -- `message::border::message_read` meets its contract: each return is a case of the definition, by the tests that led there.
 use native.Mathlib.Omega.{arith}
-use mathlib.Core.Path.{_∙_}
 use borrow.Author.Needs.{needs}
 use Rattle.ground.proofs.Limits.{count-legal, count-low, count-high}
-use Rattle.message.proofs.Borders.{Found, found, not-found, bad-count, short-table}
+use Rattle.message.proofs.Borders.{Found, found, found-all, not-found, bad-count, short-table}
 use Rattle.message.proofs.border.lay_fields.Reads as lay-fields-reads
 use Rattle.message.proofs.border.message_read.Lts as lts
 use Rattle.message.proofs.border.message_read.Reads as reads
@@ -64,9 +63,7 @@ add-result : tie.Need-add-result
 add-result c = omega (arith, got (c .before .before .before .before .before .before) .few)
 
 returns-5 : tie.Need-returns-5
-returns-5 c =
-    let message = got (c .before .before .before .before .before .before) in
-    (message .answer, c .before .before .lay-fields .ensures ∙ message .table)
+returns-5 c = found-all (got (c .before .before .before .before .before .before)) (c .before .before .lay-fields .ensures)
 
 pub message-read-spec : {M : Type 1} → statement M
 message-read-spec =

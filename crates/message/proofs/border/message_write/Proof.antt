@@ -1,11 +1,9 @@
 -- `message::border::message_write` meets its contract: the number is that of the answer that the writer gave.
 use Prim.Native.Nat.{_≤_}
 use native.Mathlib.Omega.{arith}
-use mathlib.Core.Path.{sym, ap, _∙_}
 use borrow.Author.Needs.{needs}
 use Rattle.ground.specs.Limits.{messageRoom}
-use Rattle.message.specs.Border.{writeAnswer}
-use Rattle.message.proofs.Borders.{refused-number, written-short}
+use Rattle.message.proofs.Borders.{short-by, refused-by, length-by}
 use Rattle.message.proofs.border.message_write.Lts as lts
 use Rattle.message.proofs.border.message_write.Reads as reads
 use Rattle.message.proofs.border.message_write.Statement.{statement}
@@ -18,12 +16,12 @@ short : (c : lts.After-known-told (write-reads.Asked, write-reads.Learnt, writin
     → c .before .answer .given .0 .0 ≤ messageRoom
 short c =
     let called = c .before .before .before .before .before .write in
-    written-short _ _ _ _ (sym (called .ensures .0) ∙ c .before .answer .given .1)
+    short-by _ _ _ _ (called .ensures .0) (c .before .answer .given .1)
 
 returns : tie.Need-returns
 returns c =
     let called = c .before .before .before .before .before .write in
-    (refused-number (c .before .enum-told .given .1) (c .writing-number .ensures) ∙ ap writeAnswer (called .ensures .0), called .ensures .1)
+    (refused-by _ _ _ _ (called .ensures .0) (c .before .enum-told .given .1) (c .writing-number .ensures), called .ensures .1)
 
 cast-result : tie.Need-cast-result
 cast-result c = omega (arith, short c)
@@ -34,7 +32,7 @@ add-result c = omega (arith, short c)
 returns-2 : tie.Need-returns-2
 returns-2 c =
     let called = c .before .before .before .before .before .write in
-    (ap writeAnswer (sym (c .before .answer .given .1) ∙ called .ensures .0), called .ensures .1)
+    (length-by _ _ _ _ (called .ensures .0) (c .before .answer .given .1), called .ensures .1)
 
 pub message-write-spec : {M : Type 1} → statement M
 message-write-spec =

@@ -1,12 +1,9 @@
 -- `message::writer::write` meets its contract: what it refuses it leaves alone, and what it does not refuse has room.
-use Prim.Native.Nat.{_-_}
 use native.Mathlib.Omega.{arith}
-use mathlib.Core.Path.{sym, ap, _∙_}
 use borrow.Author.Needs.{needs}
-use borrow.Rule.Slice.PartMut.{putMid}
 use lib.ListN.{length, length-take, length-drop}
 use Rattle.message.specs.Fields.{fieldsOf}
-use Rattle.message.proofs.Writings.{Writable, writable, laid-in-frame, refused-writing, accepted-writing}
+use Rattle.message.proofs.Writings.{Writable, refused-writing, writable-by, laid-writing}
 use Rattle.message.proofs.writer.lay.Reads as lay-reads
 use Rattle.message.proofs.writer.refusal.Reads as refusal-reads
 use Rattle.message.proofs.writer.write.Lts as lts
@@ -20,7 +17,9 @@ free : (c : lts.Else1 (refusal-reads.Asked, refusal-reads.Learnt, lay-reads.Aske
     (fieldsOf (c .before .before .before .before .args .kind) (c .before .before .before .before .args .sender) (c .before .before .before .before .args .changes .now))
     (length (c .before .before .before .before .args .frame .now))
     (c .before .before .before .before .args .offset)
-free c = writable (c .before .before .before .before .args .count) _ _ _ (sym (c .before .refusal .ensures) ∙ c .if1 .left)
+free c =
+    let args = c .before .before .before .before .args in
+    writable-by (args .count) _ (args .frame .now) (args .offset) (c .before .refusal .ensures) (c .if1 .left)
 
 returns : tie.Need-returns
 returns c =
@@ -43,9 +42,9 @@ returns-2 c =
     let tested = c .before .before .before .before in
     let args = tested .before .before .before .before .args in
     let m = fieldsOf (args .kind) (args .sender) (args .changes .now) in
-    accepted-writing _ m (args .frame .now) _ _
-    (sym (tested .before .refusal .ensures) ∙ tested .if1 .left)
-    (ap (putMid (args .offset) (length (args .frame .now) - args .offset) (args .frame .now)) (c .before .before .lay .ensures) ∙ laid-in-frame m (args .frame .now) (args .offset))
+    laid-writing (args .count) m (args .frame .now) (args .offset)
+    (tested .before .refusal .ensures) (tested .if1 .left)
+    (c .before .before .lay .ensures)
 
 pub write-spec : {M : Type 1} → statement M
 write-spec =

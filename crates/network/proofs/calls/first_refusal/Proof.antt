@@ -1,8 +1,8 @@
 -- `network::calls::first_refusal` meets its contract: the refusals of the ends, then of the costs and the link.
 use borrow.Author.Needs.{needs}
 use borrow.Author.Tests.{not-true, not-false}
+use Rattle.rules.specs.Network.{linkRefusal}
 use Rattle.fitness.specs.UnitTables.{isLinked}
-use Rattle.network.specs.FirstRefusals.{linkRefusal}
 use Rattle.network.proofs.calls.FirstRefusals.{ends-first, ends-passed}
 use Rattle.network.proofs.calls.first_refusal.Statement.{statement}
 use Rattle.network.proofs.calls.first_refusal.Tie as tie
@@ -28,7 +28,7 @@ returns-3 c =
     let args = ends .before .before .before .args in
     rw (not-false (args .legal) (tests .if2 .left), c .link-refusal .ensures, c .before .is-linked .ensures)
     (ends-passed (args .words .now) (args .queues .now) (args .a) (args .b)
-    (linkRefusal (isLinked (args .words .now) (args .a) (args .b)) (args .opens))
+    (linkRefusal (isLinked (args .words .now) (args .a) (args .b)) (args .asks))
     (ends .ends-refusal .ensures) (tests .before .if1 .left))
 
 pub first-refusal-spec : {M : Type 1} → statement M

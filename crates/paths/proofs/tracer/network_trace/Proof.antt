@@ -1,6 +1,6 @@
 -- `paths::tracer::network_trace` meets its contract: the number is the answer's.
 use borrow.Author.Needs.{needs}
-use Rattle.paths.proofs.Answers.{number-low}
+use Rattle.paths.proofs.TraceAnswers.{number-low}
 use Rattle.paths.proofs.tracer.network_trace.Statement.{statement}
 use Rattle.paths.proofs.tracer.network_trace.Tie as tie
 

@@ -1,6 +1,6 @@
 -- `paths::tracer::trace` meets its contract: it is the refusal's number, or what the loop gives.
 use borrow.Author.Needs.{needs}
-use Rattle.paths.proofs.Answers.{traceable, as-traced, as-refused}
+use Rattle.paths.proofs.TraceAnswers.{traceable, as-traced, as-refused}
 use Rattle.paths.proofs.tracer.trace.Statement.{statement}
 use Rattle.paths.proofs.tracer.trace.Tie as tie
 

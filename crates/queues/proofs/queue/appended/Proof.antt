@@ -1,6 +1,4 @@
 -- `queues::queue::appended` meets its contract, by what its callees ensure.
-use native.Mathlib.Omega.{arith}
-use mathlib.Core.Path.{_≡_}
 use borrow.Author.Needs.{needs}
 use Rattle.queues.specs.Queue.{appendedOf}
 use Rattle.queues.proofs.QueueThere.{held-most}

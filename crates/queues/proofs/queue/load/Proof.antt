@@ -5,7 +5,7 @@ use borrow.Author.Needs.{needs}
 use borrow.Author.Tests.{not-true, not-false}
 use Rattle.rules.specs.Tables.{queueBytes, queueAt}
 use Rattle.queues.proofs.QueueThere.{There, there-of, load-none, load-there}
-use Rattle.queues.proofs.Stretches.{lent}
+use Rattle.slices.proofs.Stretches.{lent}
 use Rattle.queues.proofs.queue.load.Statement.{statement}
 use Rattle.queues.proofs.queue.load.Tie as tie
 

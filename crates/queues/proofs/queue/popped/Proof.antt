@@ -8,8 +8,8 @@ use Rattle.ground.specs.Rows.{zeros}
 use Rattle.ground.proofs.Parts.{to-end}
 use Rattle.rules.specs.Tables.{queueBytes}
 use Rattle.queues.specs.Queue.{poppedOf}
-use Rattle.queues.specs.Slices.{laidOver}
-use Rattle.queues.proofs.Overlaid.{laid-zeros}
+use Rattle.slices.specs.Slices.{laidOver}
+use Rattle.slices.proofs.Overlaid.{laid-zeros}
 use Rattle.queues.proofs.queue.popped.Statement.{statement}
 use Rattle.queues.proofs.queue.popped.Tie as tie
 

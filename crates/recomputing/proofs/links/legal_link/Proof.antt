@@ -1,7 +1,5 @@
 -- `recomputing::links::legal_link` meets its contract: each return rewrites the definition by the tests that led there.
-use borrow.Author.Needs.{needs}
 use borrow.Author.Tests.{le-leb, lt-leb}
-use Rattle.ground.proofs.Tests.{and-false}
 use Rattle.recomputing.proofs.links.legal_link.Statement.{statement}
 use Rattle.recomputing.proofs.links.legal_link.Tie as tie
 

@@ -5,7 +5,7 @@ use mathlib.Core.Path.{refl}
 use borrow.Author.Needs.{needs}
 use types.Run.{miss}
 use Rattle.lines.specs.declared.Command.the-variants.{Show}
-use Rattle.script.specs.Answers.{wordsThen, bytesThen}
+use Rattle.script.specs.Answers.{printed, wordsThen, bytesThen}
 use Rattle.script.proofs.Verdicts.{said-put}
 use Rattle.script.proofs.answer.perform.Statement.{statement}
 use Rattle.script.proofs.answer.perform.Tie as tie
@@ -15,7 +15,7 @@ not-show : (c : tie.At-match-keys2) → c .before .before .before .before .args 
 not-show c e = miss (0 ∷ 1 ∷ 2 ∷ 3 ∷ 4 ∷ 6 ∷ []) 5 tt (rw e at (c .match .keys2))
 
 returns : tie.Need-returns
-unfolding wordsThen bytesThen
+unfolding printed wordsThen bytesThen
 returns c =
     let shown = c .before .before in
     let told = shown .before .before .before .before in
@@ -25,7 +25,7 @@ returns-2 : tie.Need-returns-2
 returns-2 c =
     let put = c .before .before in
     let did = put .before .before .before .before .before .before in
-    said-put _ _ _ (not-show (did .before .before .before)) (did .act .ensures) (put .put-verdict .ensures)
+    said-put _ _ _ _ (not-show (did .before .before .before)) (did .act .ensures) (put .put-verdict .ensures)
 
 pub perform-spec : {M : Type 1} → statement M
 perform-spec =

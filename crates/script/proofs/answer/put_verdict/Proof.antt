@@ -1,8 +1,8 @@
 -- `script::answer::put_verdict` meets its contract.
 use borrow.Author.Needs.{needs}
 use borrow.Author.Tests.{eq-eqb, ne-eqb, le-leb, lt-leb}
+use Rattle.ground.specs.Refusal.{answerBase}
 use Rattle.script.specs.Acting.{badNumber}
-use Rattle.script.specs.Answers.{answerBase}
 use Rattle.script.proofs.answer.put_verdict.Statement.{statement}
 use Rattle.script.proofs.answer.put_verdict.Tie as tie
 

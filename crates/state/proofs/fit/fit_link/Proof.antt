@@ -1,6 +1,5 @@
 -- `state::fit::fit_link` meets its contract: each return is the law of Fitness.antt on that case of the rules' test.
 use Prim.Native.Nat.{ℕ}
-use native.Mathlib.Omega.{arith}
 use mathlib.Core.List.{List}
 use mathlib.Core.Path.{_≡_, sym, _∙_}
 use borrow.Author.Needs.{needs}
@@ -18,7 +17,7 @@ returns c =
     let start = c .before .before .before .before .before .before .before in
     sym (down-wait (start .args .unit) (start .args .k) (start .pre .1) (c .before .if1 .taken) (c .if2 .taken))
 
-slice-empty : tie.Need-slice-aggregate-is-empty
+slice-empty : tie.Need-slice-aggregate-is-nothing
 slice-empty c = sym (length-take-le _ _ (search needs))
 
 returns-2 : tie.Need-returns-2
@@ -26,7 +25,7 @@ returns-2 c =
     let start = c .before .before .before .before .before .before .before .before .before in
     let unit = start .args .unit in
     let long : length (unit .copies) ≡ flatLength = search needs in
-    c .is-empty .ensures
+    c .is-nothing .ensures
     ∙ row-lent (unit .count) (unit .copies) (start .args .k) (start .pre .1) (start .pre .0) long (c .before .before .before .before .copy-of .ensures)
     (λ (n : ℕ) (copy : List ℕ). same copy (zeros n))
     ∙ sym (down-copy unit (start .args .k) (start .pre .1) (c .before .before .before .if1 .taken) (c .before .before .if2 .left))

@@ -96,7 +96,7 @@ returns-4 c =
     (through .through-neighbours .ensures ∙ through-whole _ _ _ (count-low (tested .before .before)) (long (tested .before .before)))
     (laid .before .before .sets-over .ensures ∙ filled-counted _ _ (count-low (tested .before .before)))
     (laid .lay .ensures) in
-    c .same-numbers .ensures
+    c .is-same .ensures
     ∙ ap (same table) again
     ∙ sym (by-laid table (tested .before .before .before .before .before .if1 .left) (fit tested))
 

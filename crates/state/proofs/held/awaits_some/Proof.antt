@@ -1,55 +1,33 @@
--- `state::held::awaits_some` meets its contract. The invariant: no neighbour passed is awaited.
-use Prim.Native.Nat.{_≤_, _-_}
+-- `state::held::awaits_some` meets its contract: some wait is not 0 where the waits are not all 0.
 use native.Mathlib.Omega.{arith}
-use mathlib.Core.Bool.{false, not}
-use mathlib.Core.Path.{_≡_, refl, sym}
+use mathlib.Core.Path.{_≡_, sym, ap, _∙_}
+use mathlib.Core.Bool.{not}
 use borrow.Author.Needs.{needs}
-use lib.Dec.{eqb}
-use lib.ListN.{take}
-use Rattle.ground.specs.Rows.{at, some}
+use lib.ListN.{length, take, length-take}
+use Rattle.ground.specs.Limits.{unitLimit}
 use Rattle.rules.specs.Unit.{isActive}
-use Rattle.ground.proofs.Prefixes.{some-still, first-found, first-missing}
-use Rattle.ground.proofs.Rows.{some-of}
+use Rattle.slices.proofs.AllZero.{some-number}
 use Rattle.state.proofs.held.awaits_some.Statement.{statement}
 use Rattle.state.proofs.held.awaits_some.Tie as tie
 
-abbrev Inv-loop : tie.InvT-loop
-Inv-loop count awaited k₀ k = (k ≤ count) × (some k (λ i. not (eqb (at (take count awaited) i) 0)) ≡ false)
+-- The waits have a place for each unit.
+long : (c : tie.Start) → length (c .args .unit .awaited) ≡ unitLimit
+long c = search needs
 
-abbrev μ-loop : tie.MeasureT-loop
-μ-loop count awaited k₀ k = count - k
-
-loop-holds : tie.Need-loop-holds Inv-loop μ-loop
-loop-holds c = (search needs, refl)
-
-returns : tie.Need-returns Inv-loop μ-loop
+returns : tie.Need-returns
 unfolding isActive
 returns c =
-    let here = c .before .before .loop in
-    let below = c .before .loop-test .taken in
-    sym (some-of _ _ (here .k) below (first-found _ _ (here .k) below (c .if1 .taken)))
-
-loop-again : tie.Need-loop-again Inv-loop μ-loop
-loop-again c =
-    let here = c .before .before .loop in
-    let below = c .before .loop-test .taken in
-    (search needs, some-still (here .k) _ (here .inv .1) (first-missing _ _ (here .k) below (c .if1 .left)))
-
-returns-2 : tie.Need-returns-2 Inv-loop μ-loop
-unfolding isActive
-returns-2 c =
-    let all : c .before .loop .k ≡ c .before .before .before .args .unit .count = omega arith in
-    sym (rw all at (c .before .loop .inv .1))
+    let start = c .before .before .before in
+    let unit = start .args .unit in
+    ap not (c .is-nothing .ensures)
+    ∙ sym
+    (some-number (take (unit .count) (unit .awaited)) (unit .count)
+    (omega (arith, length-take (unit .count) (unit .awaited), long start)))
 
 pub awaits-some-spec : {M : Type 1} → statement M
 awaits-some-spec =
     tie.close
     (tie.spec
-    Inv-loop
-    μ-loop
-    loop-holds
-    (λ c. search needs) (λ c. search needs)
-    returns
-    (λ c. search needs) (λ c. search needs)
-    loop-again
-    returns-2)
+    (λ c. omega (arith, long (c .before))) (λ c. simp length-take (omega (arith, long (c .before .before))))
+    (λ c κs. search needs)
+    returns)

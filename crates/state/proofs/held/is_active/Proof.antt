@@ -1,5 +1,4 @@
 -- `state::held::is_active` meets its contract: each return by the test that led there.
-use mathlib.Core.Path.{sym, _∙_}
 use borrow.Author.Needs.{needs}
 use borrow.Author.Tests.{le-leb, lt-leb}
 use Rattle.state.proofs.held.is_active.Statement.{statement}

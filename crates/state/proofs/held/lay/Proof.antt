@@ -96,25 +96,6 @@ begins5 c = begins-more (rowAt 4) unitLimit _ _ _ _ (begins4 (c .before .before 
 begins6 : (c : tie.After-put-copies) → Begins unitWords (laid6 (start6 c)) (c .put-copies .last .0)
 begins6 c = begins-more (rowAt 5) flatLength _ _ _ _ (begins5 (c .before .before .before .before)) (omega arith) (long (start6 c) .copies) (c .put-copies .ensures)
 
-put-row-requires : tie.Need-put-row-requires
-put-row-requires c κs =
-    omega (arith, begins0 (c .before .before .before .before .before .before .before .before .before) .long)
-
-put-row-requires-2 : tie.Need-put-row-requires-2
-put-row-requires-2 c κs = omega (arith, begins1 (c .before .before .before) .long)
-
-put-row-requires-3 : tie.Need-put-row-requires-3
-put-row-requires-3 c κs = omega (arith, begins2 (c .before .before .before) .long)
-
-put-row-requires-4 : tie.Need-put-row-requires-4
-put-row-requires-4 c κs = omega (arith, begins3 (c .before .before .before) .long)
-
-put-row-requires-5 : tie.Need-put-row-requires-5
-put-row-requires-5 c κs = omega (arith, begins4 (c .before .before .before) .long)
-
-put-copies-requires : tie.Need-put-copies-requires
-put-copies-requires c κs = begins5 (c .before .before .before) .long
-
 same-length : tie.Need-same-length
 same-length c = begins6 (c .before .before) .long ∙ sym (start6 (c .before .before) .pre .0)
 
@@ -126,11 +107,7 @@ lay-spec =
     tie.close
     (tie.spec
     (λ c. search needs) (λ c. search needs) (λ c. search needs) (λ c. simp length-set (omega arith))
-    put-row-requires
-    put-row-requires-2
-    put-row-requires-3
-    put-row-requires-4
-    put-row-requires-5
-    put-copies-requires
+    (λ c κs. search needs) (λ c κs. search needs) (λ c κs. search needs) (λ c κs. search needs)
+    (λ c κs. search needs) (λ c κs. search needs)
     same-length
     returns)

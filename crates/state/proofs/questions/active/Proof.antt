@@ -10,7 +10,7 @@ use Rattle.rules.specs.Unit.{isActive}
 use Rattle.rules.proofs.Fit.{fit-unit-shaped}
 use Rattle.state.specs.Holding.{unitOf}
 use Rattle.state.specs.declared.held.Held.{Held}
-use Rattle.state.proofs.Answers.{loadable}
+use Rattle.state.proofs.QuestionAnswers.{loadable}
 use Rattle.state.proofs.Holding.{holds-back}
 use Rattle.state.proofs.questions.active.Statement.{statement}
 use Rattle.state.proofs.questions.active.Tie as tie

@@ -15,7 +15,7 @@ use Rattle.ground.proofs.Filled.{take-filled}
 use Rattle.rules.proofs.Fit.{fit-unit-shaped}
 use Rattle.rules.proofs.FitUnit.{FitFacts, fit-table-facts}
 use Rattle.state.specs.declared.held.Held.{Held}
-use Rattle.state.proofs.Answers.{refused, answered, loadable, Asked, asked, distance-within}
+use Rattle.state.proofs.QuestionAnswers.{refused, answered, loadable, Asked, asked, distance-within}
 use Rattle.state.proofs.questions.distance.Statement.{statement}
 use Rattle.state.proofs.questions.distance.Tie as tie
 

@@ -10,7 +10,7 @@ use Rattle.rules.specs.Unit.{Unit}
 use Rattle.ground.proofs.Places.{at-filled}
 use Rattle.rules.proofs.FitUnit.{FitFacts, fit-table-facts}
 use Rattle.state.specs.declared.held.Held.{Held}
-use Rattle.state.proofs.Answers.{refused, answered, loadable, Asked, asked, feasible-within}
+use Rattle.state.proofs.QuestionAnswers.{refused, answered, loadable, Asked, asked, feasible-within}
 use Rattle.state.proofs.questions.feasible.Statement.{statement}
 use Rattle.state.proofs.questions.feasible.Tie as tie
 

@@ -6,7 +6,7 @@ use borrow.Author.Needs.{needs}
 use borrow.Author.Tests.{lt-ltb, le-ltb, not-true, not-false}
 use Rattle.ground.specs.Rows.{at}
 use Rattle.rules.specs.Tables.{unitFrom, fitUnitTable}
-use Rattle.state.proofs.Answers.{loadable}
+use Rattle.state.proofs.QuestionAnswers.{loadable}
 use Rattle.state.proofs.questions.question_refusal.Statement.{statement}
 use Rattle.state.proofs.questions.question_refusal.Tie as tie
 

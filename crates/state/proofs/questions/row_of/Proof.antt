@@ -11,7 +11,7 @@ use Rattle.ground.proofs.Limits.{filled-counted}
 use Rattle.ground.proofs.Tests.{if-true}
 use Rattle.state.specs.Asked.{rowAnswer}
 use Rattle.state.specs.declared.held.Held.{Held}
-use Rattle.state.proofs.Answers.{loadable, row-held}
+use Rattle.state.proofs.QuestionAnswers.{loadable, row-held}
 use Rattle.state.proofs.questions.row_of.Statement.{statement}
 use Rattle.state.proofs.questions.row_of.Tie as tie
 

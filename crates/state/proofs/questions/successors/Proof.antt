@@ -3,10 +3,11 @@ use Prim.Native.Nat.{ℕ, _+_}
 use native.Mathlib.Omega.{arith}
 use mathlib.Core.Path.{sym, ap, _∙_}
 use borrow.Author.Needs.{needs}
+use Rattle.ground.specs.Refusal.{answerBase}
 use Rattle.rules.specs.Hub.{successorsAnswer}
 use Rattle.rules.specs.Tables.{unitFrom}
 use Rattle.rules.proofs.FitUnit.{fit-table-facts}
-use Rattle.state.proofs.Answers.{refused, answered, loadable, Asked, asked, set-below, fit-set}
+use Rattle.state.proofs.QuestionAnswers.{refused, answered, loadable, Asked, asked, set-below, fit-set}
 use Rattle.state.proofs.questions.successors.Statement.{statement}
 use Rattle.state.proofs.questions.successors.Tie as tie
 
@@ -38,7 +39,7 @@ unfolding successorsAnswer
 returns-2 c =
     let words = c .before .before .before .before .args .table .now in
     let to = c .before .before .before .before .args .to in
-    ap (λ (set : ℕ). 100 + set) (fit-set words to (nothing-refused (c .before)))
+    ap (λ (set : ℕ). answerBase + set) (fit-set words to (nothing-refused (c .before)))
     ∙ answered _ (c .before .before .question-refusal .ensures) (c .before .if1 .left)
 
 pub successors-spec : {M : Type 1} → statement M

@@ -1,6 +1,6 @@
 -- `texts::row::put_comma` meets its contract.
 use borrow.Author.Needs.{needs}
-use Rattle.texts.proofs.Putting.{put-none}
+use Rattle.slices.proofs.Putting.{put-none}
 use Rattle.texts.proofs.row.put_comma.Statement.{statement}
 use Rattle.texts.proofs.row.put_comma.Tie as tie
 

@@ -1,6 +1,6 @@
 -- `texts::row::put_ends` meets its contract: the second number is put behind the first and a space.
 use borrow.Author.Needs.{needs}
-use Rattle.texts.proofs.Putting.{put-then}
+use Rattle.slices.proofs.Putting.{put-then}
 use Rattle.texts.proofs.row.put_ends.Statement.{statement}
 use Rattle.texts.proofs.row.put_ends.Tie as tie
 

@@ -9,7 +9,7 @@ use lib.ListN.{length}
 use Rattle.ground.specs.Rows.{isIn}
 use Rattle.ground.proofs.Bits.{halved}
 use Rattle.texts.specs.Printed.{joinedTo, isSome}
-use Rattle.texts.proofs.Putting.{Put, put-none, put-as, put-then}
+use Rattle.slices.proofs.Putting.{Put, put-none, put-as, put-then}
 use Rattle.texts.proofs.Successors.{joined-more, some-more}
 use Rattle.texts.proofs.row.put_joined.Statement.{statement}
 use Rattle.texts.proofs.row.put_joined.Tie as tie

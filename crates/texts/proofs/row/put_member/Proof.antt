@@ -1,7 +1,7 @@
 -- `texts::row::put_member` meets its contract: the number is put behind the comma.
 use mathlib.Core.Path.{refl}
 use borrow.Author.Needs.{needs}
-use Rattle.texts.proofs.Putting.{put-none, put-then}
+use Rattle.slices.proofs.Putting.{put-none, put-then}
 use Rattle.texts.proofs.row.put_member.Statement.{statement}
 use Rattle.texts.proofs.row.put_member.Tie as tie
 

@@ -1,6 +1,6 @@
 -- `texts::row::put_next` meets its contract: the distance is put behind the space.
 use borrow.Author.Needs.{needs}
-use Rattle.texts.proofs.Putting.{put-then}
+use Rattle.slices.proofs.Putting.{put-then}
 use Rattle.texts.proofs.row.put_next.Statement.{statement}
 use Rattle.texts.proofs.row.put_next.Tie as tie
 

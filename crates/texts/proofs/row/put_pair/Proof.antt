@@ -1,6 +1,6 @@
 -- `texts::row::put_pair` meets its contract: the parts of the line, one behind the other.
 use borrow.Author.Needs.{needs}
-use Rattle.texts.proofs.Putting.{put-then}
+use Rattle.slices.proofs.Putting.{put-then}
 use Rattle.texts.proofs.row.put_pair.Statement.{statement}
 use Rattle.texts.proofs.row.put_pair.Tie as tie
 

@@ -1,6 +1,6 @@
 -- `texts::row::put_state` meets its contract: its parts, one behind the other.
 use borrow.Author.Needs.{needs}
-use Rattle.texts.proofs.Putting.{put-then}
+use Rattle.slices.proofs.Putting.{put-then}
 use Rattle.texts.proofs.row.put_state.Statement.{statement}
 use Rattle.texts.proofs.row.put_state.Tie as tie
 

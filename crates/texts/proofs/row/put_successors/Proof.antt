@@ -1,7 +1,7 @@
 -- `texts::row::put_successors` meets its contract: no successors are the empty text, and the hyphen goes in its place.
 use mathlib.Core.Path.{sym, _∙_}
 use borrow.Author.Needs.{needs}
-use Rattle.texts.proofs.Putting.{put-as, put-then}
+use Rattle.slices.proofs.Putting.{put-as, put-then}
 use Rattle.texts.proofs.Successors.{some-joined, hyphen-for-none}
 use Rattle.texts.proofs.row.put_successors.Statement.{statement}
 use Rattle.texts.proofs.row.put_successors.Tie as tie

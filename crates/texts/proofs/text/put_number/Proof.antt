@@ -6,7 +6,7 @@ use borrow.Author.Needs.{needs}
 use lib.ListN.{length, length-set}
 use Rattle.texts.specs.Texts.{decimalRoom}
 use Rattle.texts.proofs.Digits.{Begun, begun-none, begun-place, begun-more, begun-all}
-use Rattle.texts.proofs.Putting.{put-as}
+use Rattle.slices.proofs.Putting.{put-as}
 use Rattle.texts.proofs.text.put_number.Statement.{statement}
 use Rattle.texts.proofs.text.put_number.Tie as tie
 

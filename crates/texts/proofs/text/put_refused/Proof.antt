@@ -1,6 +1,6 @@
 -- `texts::text::put_refused` meets its contract: the parts of the line, one behind the other.
 use borrow.Author.Needs.{needs}
-use Rattle.texts.proofs.Putting.{put-then}
+use Rattle.slices.proofs.Putting.{put-then}
 use Rattle.texts.proofs.text.put_refused.Statement.{statement}
 use Rattle.texts.proofs.text.put_refused.Tie as tie
 

@@ -1,11 +1,10 @@
 -- `unit::calls::take` meets its contract: the message that is taken is the one of the bytes.
-use Prim.Native.Nat.{_<_, _≤_}
 use native.Mathlib.Omega.{arith}
 use mathlib.Core.Logic.{_⊎_, inl, inr, ⊎-elim}
-use mathlib.Core.Path.{_≡_}
 use borrow.Author.Needs.{needs}
 use Rattle.ground.proofs.Tests.{not-both}
-use Rattle.unit.proofs.MessageCalls.{Taken, taken, unread, taken-noted}
+use Rattle.message.proofs.ReaderAnswers.{Taken, taken, unread}
+use Rattle.unit.proofs.MessageCalls.{taken-noted}
 use Rattle.unit.proofs.calls.take.Statement.{statement}
 use Rattle.unit.proofs.calls.take.Tie as tie
 

@@ -1,55 +1,40 @@
--- `unit::event::is_alone` meets its contract. The invariant: no link passed is up.
-use Prim.Native.Nat.{_≤_, _-_}
+-- `unit::event::is_alone` meets its contract: no link is up where the costs are all 0.
 use native.Mathlib.Omega.{arith}
-use mathlib.Core.Bool.{false, not}
-use mathlib.Core.Path.{_≡_, refl, sym, ap}
+use mathlib.Core.Bool.{Bool, true, false, not}
+use mathlib.Core.Path.{_≡_, refl, sym, ap, _∙_}
 use borrow.Author.Needs.{needs}
-use lib.Dec.{eqb}
-use lib.ListN.{take}
-use Rattle.ground.specs.Rows.{at, some}
+use lib.ListN.{length, take, length-take}
+use Rattle.ground.specs.Limits.{unitLimit}
 use Rattle.rules.specs.Event.{isAlone}
-use Rattle.ground.proofs.Prefixes.{some-still, first-found, first-missing}
-use Rattle.ground.proofs.Rows.{some-of}
+use Rattle.slices.proofs.AllZero.{some-number}
 use Rattle.unit.proofs.event.is_alone.Statement.{statement}
 use Rattle.unit.proofs.event.is_alone.Tie as tie
 
-abbrev Inv-loop : tie.InvT-loop
-Inv-loop count costs k₀ k = (k ≤ count) × (some k (λ i. not (eqb (at (take count costs) i) 0)) ≡ false)
+-- What is not so twice is so.
+twice-not : (t : Bool) → not (not t) ≡ t
+twice-not true = refl
+twice-not false = refl
 
-abbrev μ-loop : tie.MeasureT-loop
-μ-loop count costs k₀ k = count - k
+-- The costs have a place for each unit.
+long : (c : tie.Start) → length (c .args .unit .costs) ≡ unitLimit
+long c = search needs
 
-loop-holds : tie.Need-loop-holds Inv-loop μ-loop
-loop-holds c = (search needs, refl)
-
-returns : tie.Need-returns Inv-loop μ-loop
+returns : tie.Need-returns
 unfolding isAlone
 returns c =
-    let here = c .before .before .loop in
-    let below = c .before .loop-test .taken in
-    ap not (sym (some-of _ _ (here .k) below (first-found _ _ (here .k) below (c .if1 .taken))))
-
-loop-again : tie.Need-loop-again Inv-loop μ-loop
-loop-again c =
-    let here = c .before .before .loop in
-    let below = c .before .loop-test .taken in
-    (search needs, some-still (here .k) _ (here .inv .1) (first-missing _ _ (here .k) below (c .if1 .left)))
-
-returns-2 : tie.Need-returns-2 Inv-loop μ-loop
-unfolding isAlone
-returns-2 c =
-    let all : c .before .loop .k ≡ c .before .before .before .args .unit .count = omega arith in
-    ap not (sym (rw all at (c .before .loop .inv .1)))
+    let start = c .before .before .before in
+    let unit = start .args .unit in
+    c .is-nothing .ensures
+    ∙ sym
+    (ap not
+    (some-number (take (unit .count) (unit .costs)) (unit .count)
+    (omega (arith, length-take (unit .count) (unit .costs), long start)))
+    ∙ twice-not _)
 
 pub is-alone-spec : {M : Type 1} → statement M
 is-alone-spec =
     tie.close
     (tie.spec
-    Inv-loop
-    μ-loop
-    loop-holds
-    (λ c. search needs) (λ c. search needs)
-    returns
-    (λ c. search needs) (λ c. search needs)
-    loop-again
-    returns-2)
+    (λ c. omega (arith, long (c .before))) (λ c. simp length-take (omega (arith, long (c .before .before))))
+    (λ c κs. search needs)
+    returns)

@@ -1,9 +1,8 @@
 -- `unit::event::new_tree` meets its contract: what recomputing needs of the arrays follows from a fit unit.
-use mathlib.Core.Path.{ap, _∙_}
+use mathlib.Core.Path.{ap}
 use borrow.Author.Needs.{needs}
-use Rattle.rules.specs.Tables.{laidRow}
 use Rattle.state.specs.declared.held.Held.{Held}
-use Rattle.unit.proofs.Composed.{from-held}
+use Rattle.unit.proofs.Composed.{row-held}
 use Rattle.unit.proofs.event.new_tree.Statement.{statement}
 use Rattle.unit.proofs.event.new_tree.Tie as tie
 
@@ -14,7 +13,7 @@ returns-2 : tie.Need-returns-2
 returns-2 c =
     let start = c .before .before .before .before .before in
     rw (c .before .before .before .before .if1 .left)
-    (c .recomputed .ensures ∙ ap laidRow (from-held (start .args .unit) (start .pre .0) (start .pre .1)))
+    (row-held (start .args .unit) (start .pre .0) (start .pre .1) (c .recomputed .ensures))
 
 pub new-tree-spec : {M : Type 1} → statement M
 new-tree-spec =

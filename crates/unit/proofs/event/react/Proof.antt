@@ -1,5 +1,5 @@
 -- `unit::event::react` meets its contract: the pieces, composed, are steps B to F.
-use mathlib.Core.Path.{_≡_, _∙_}
+use mathlib.Core.Path.{_≡_}
 use borrow.Author.Needs.{needs}
 use Rattle.rules.specs.Event.{changed}
 use Rattle.rules.specs.Tables.{laidRow}

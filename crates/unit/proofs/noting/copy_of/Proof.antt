@@ -1,7 +1,7 @@
 -- `unit::noting::copy_of` meets its contract: the row is the copy as it is laid, by `copy-laid`.
 use mathlib.Core.Path.{_∙_}
 use borrow.Author.Needs.{needs}
-use Rattle.unit.proofs.Noted.{copy-laid}
+use Rattle.unit.proofs.NotedArrays.{copy-laid}
 use Rattle.unit.proofs.noting.copy_of.Statement.{statement}
 use Rattle.unit.proofs.noting.copy_of.Tie as tie
 

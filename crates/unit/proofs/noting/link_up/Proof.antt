@@ -6,7 +6,7 @@ use Rattle.ground.specs.Rows.{zeros}
 use Rattle.rules.specs.Event.{noted}
 use Rattle.state.specs.Holding.{unitOf}
 use Rattle.state.specs.declared.held.Held.{Held}
-use Rattle.unit.proofs.Noted.{row-stored, links-held, copy-emptied}
+use Rattle.unit.proofs.NotedArrays.{row-stored, links-held, copy-emptied}
 use Rattle.unit.proofs.noting.link_up.Statement.{statement}
 use Rattle.unit.proofs.noting.link_up.Tie as tie
 

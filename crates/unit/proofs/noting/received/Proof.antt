@@ -20,7 +20,7 @@ use Rattle.rules.proofs.Applied.{applied-filled, length-applied}
 use Rattle.recomputing.specs.Flat.{flatLength, withRow}
 use Rattle.state.specs.Holding.{unitOf}
 use Rattle.state.specs.declared.held.Held.{Held}
-use Rattle.unit.proofs.Noted.{padded-shaped, row-stored, links-held, copy-stored}
+use Rattle.unit.proofs.NotedArrays.{padded-shaped, row-stored, links-held, copy-stored}
 use Rattle.unit.proofs.noting.received.Statement.{statement}
 use Rattle.unit.proofs.noting.received.Tie as tie
 

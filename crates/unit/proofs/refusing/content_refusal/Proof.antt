@@ -9,10 +9,11 @@ use lib.ListN.{length}
 use Rattle.ground.specs.Limits.{unitLimit, legalCount}
 use Rattle.ground.proofs.Limits.{count-legal}
 use Rattle.rules.proofs.FitUnit.{fit-facts}
+use Rattle.message.proofs.ReaderAnswers.{Taken, taken, unread}
 use Rattle.state.specs.Holding.{unitOf}
+use Rattle.unit.proofs.ContentRefusals.{refused-unread, refused-sender, refused-wait, Awaited, refused-idle}
+use Rattle.unit.proofs.ContentRefusals.{after-length, refused-tree, refused-none}
 use Rattle.unit.proofs.HeldFit.{held-high, held-padded}
-use Rattle.unit.proofs.MessageCalls.{Taken, taken, unread, refused-unread, refused-sender, refused-wait, Awaited}
-use Rattle.unit.proofs.MessageCalls.{refused-idle, after-length, refused-tree, refused-none}
 use Rattle.unit.proofs.refusing.content_refusal.Statement.{statement}
 use Rattle.unit.proofs.refusing.content_refusal.Tie as tie
 

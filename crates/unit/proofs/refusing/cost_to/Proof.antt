@@ -1,8 +1,8 @@
 -- `unit::refusing::cost_to` meets its contract: each return rewrites the definition by the tests that led there.
 use native.Mathlib.Omega.{arith}
 use borrow.Author.Needs.{needs}
-use Rattle.state.proofs.Answers.{loadable}
-use Rattle.unit.proofs.Refusals.{ends, cost-word}
+use Rattle.state.proofs.QuestionAnswers.{loadable}
+use Rattle.unit.proofs.LinkRefusals.{ends, cost-word}
 use Rattle.unit.proofs.refusing.cost_to.Statement.{statement}
 use Rattle.unit.proofs.refusing.cost_to.Tie as tie
 

@@ -10,8 +10,8 @@ use lib.ListN.{length}
 use Rattle.ground.specs.Rows.{at}
 use Rattle.rules.specs.Tables.{unitWords, unitFrom, fitUnitTable}
 use Rattle.rules.proofs.FitUnit.{fit-table-facts}
-use Rattle.state.proofs.Answers.{loadable}
-use Rattle.unit.proofs.Refusals.{end-unfit, end-numbers}
+use Rattle.state.proofs.QuestionAnswers.{loadable}
+use Rattle.unit.proofs.LinkRefusals.{end-unfit, end-numbers}
 use Rattle.unit.proofs.refusing.end_refusal.Lts as lts
 use Rattle.unit.proofs.refusing.end_refusal.Reads as reads
 use Rattle.unit.proofs.refusing.end_refusal.Statement.{statement}

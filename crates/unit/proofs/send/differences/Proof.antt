@@ -6,7 +6,7 @@ use mathlib.Core.Path.{_≡_, refl}
 use borrow.Author.Needs.{needs}
 use Rattle.rules.specs.Message.{differences}
 use Rattle.rules.proofs.Differences.{differences-most}
-use Rattle.unit.proofs.Sending.{Listed, listed-same, listed-other}
+use Rattle.unit.proofs.LaidMessages.{Listed, listed-same, listed-other}
 use Rattle.unit.proofs.send.differences.Statement.{statement}
 use Rattle.unit.proofs.send.differences.Tie as tie
 

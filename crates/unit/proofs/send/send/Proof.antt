@@ -12,8 +12,8 @@ use Rattle.ground.specs.Rows.{laidAfter}
 use Rattle.ground.specs.Limits.{unitLimit}
 use Rattle.unit.specs.Sending.{kindFor, bytesTo}
 use Rattle.unit.specs.declared.send.Changes.{Changes}
-use Rattle.unit.proofs.Sending.{sentTo, listIn, sendable-as, Laid, laid-more}
-use Rattle.unit.proofs.SendingAll.{bytesFor, picked, facts, small-tree, place-for, sendable-one, sent-all}
+use Rattle.unit.proofs.LaidMessages.{sentTo, listIn, sendable-as, Laid, laid-more}
+use Rattle.unit.proofs.AllMessages.{bytesFor, picked, facts, small-tree, place-for, sendable-one, sent-all}
 use Rattle.unit.proofs.send.send.Statement.{statement}
 use Rattle.unit.proofs.send.send.Tie as tie
 

@@ -1,2 +1,3 @@
 -- The laws by which the questions meet their contracts.
+pub mod OneOutput
 pub mod UnitAnswers

@@ -10,15 +10,15 @@ use lib.Dec.{eqb, ltb}
 use Rattle.ground.specs.Choice.{if_then_else_}
 use Rattle.ground.specs.Refusal.{accepted, _gives_, _otherwise_, answerBase}
 use Rattle.ground.specs.Rows.{at}
-use Rattle.rules.specs.Hub.{reachable, activeAnswer, questionRefusal, distanceAnswer, feasibleAnswer, successorsAnswer}
+use Rattle.rules.specs.Hub.{reachable, activeAnswer, questionRefusal, distanceAnswer, feasibleAnswer, successorsAnswer, linkAnswer, awaitsAnswer}
 use Rattle.rules.specs.Network.{unitAt}
 use Rattle.rules.specs.NetworkTable.{unitRefusal, pairRefusal, stateAnswer, distanceBetween, feasibleBetween}
-use Rattle.rules.specs.NetworkTable.{successorsBetween}
+use Rattle.rules.specs.NetworkTable.{successorsBetween, linkBetween, awaitsBetween}
 use Rattle.rules.specs.Tables.{unitFrom, networkFrom, fitUnitTable, fitTables}
 use Rattle.rules.specs.Unit.{Unit, isActive, ownDistance, successorSet}
 use Rattle.state.specs.Asked.{rowOf, noRow, rowAnswer, askedOf}
 use Rattle.state.specs.declared.questions.Question.{Question}
-use Rattle.state.specs.declared.questions.Question.the-variants.{Distance, Feasible, Successors}
+use Rattle.state.specs.declared.questions.Question.the-variants.{Distance, Feasible, Successors, Link, Awaits}
 use Rattle.ground.proofs.Refusal.{gives-none, otherwise-none}
 use Rattle.ground.proofs.Tests.{both, if-false}
 use Rattle.rules.proofs.Fit.{fit-tables-of}
@@ -114,15 +114,19 @@ module _ (words bytes : List ℕ) (i : ℕ) where
 
       -- So its answer to a question is.
       pub pair-answers : (q : Question) → askedOf q (tableIn words i) j ≡ askedBetween q words bytes i j
-      unfolding distanceAnswer distanceBetween feasibleAnswer feasibleBetween successorsAnswer successorsBetween
+      unfolding distanceAnswer distanceBetween feasibleAnswer feasibleBetween successorsAnswer successorsBetween linkAnswer linkBetween awaitsAnswer awaitsBetween
       pair-answers Distance = asked-value (λ u. reachable (ownDistance u j))
       pair-answers Feasible = asked-value (λ u. reachable (at (u .feasible) j))
       pair-answers Successors = asked-value (λ u. answerBase + successorSet u j)
+      pair-answers Link = asked-value (λ u. answerBase + at (u .costs) j)
+      pair-answers Awaits = asked-value (λ u. answerBase + at (u .awaited) j)
 
     -- What refuses it is the network's answer.
     pub pair-refuses : (q : Question) {number : ℕ} → number ≡ pairRefusal words bytes i j → number ≢ accepted
         → number ≡ askedBetween q words bytes i j
-    unfolding distanceBetween feasibleBetween successorsBetween
+    unfolding distanceBetween feasibleBetween successorsBetween linkBetween awaitsBetween
     pair-refuses Distance e d = refused _ e d
     pair-refuses Feasible e d = refused _ e d
     pair-refuses Successors e d = refused _ e d
+    pair-refuses Link e d = refused _ e d
+    pair-refuses Awaits e d = refused _ e d

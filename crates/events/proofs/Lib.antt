@@ -3,6 +3,7 @@ pub mod BothTests
 pub mod HeldNetwork
 pub mod LaidTables
 pub mod MessageRoom
+pub mod OneOutput
 pub mod PutMessages
 pub mod TakesPlace
 pub mod ToldUnit

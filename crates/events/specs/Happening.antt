@@ -1,4 +1,6 @@
--- An event that a unit was told of takes place where its messages find room, and else is refused with 13.
+-- Order: an event that a unit was told of takes place where its messages find room, and else is refused with 13.
+-- proofs/HeldNetwork.antt shows that the tables are then those of `reacted`, and proofs/MessageRoom.antt that without room the
+-- network `overflows`.
 use Prim.Native.Nat.{ℕ}
 use mathlib.Core.Bool.{Bool, _&&_}
 use mathlib.Core.List.{List}

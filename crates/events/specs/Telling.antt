@@ -1,4 +1,5 @@
--- A unit's event, told to a copy of its table with a buffer of zeros for its messages.
+-- Order: a unit's event, told to a copy of its table with a buffer of zeros for its messages. proofs/ToldUnit.antt shows that
+-- the copy then holds what the rules' `reaction` leaves.
 use Prim.Native.Nat.{ℕ, _-_}
 use mathlib.Core.List.{List}
 use lib.Dec.{eqb}

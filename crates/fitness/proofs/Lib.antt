@@ -2,6 +2,7 @@
 pub mod EveryLoop
 pub mod FitOfParts
 pub mod FitTables
+pub mod OneOutput
 pub mod PartsOfFit
 pub mod PartsRead
 pub mod PlacesFit

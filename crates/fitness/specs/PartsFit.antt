@@ -1,5 +1,5 @@
--- The fitness of a network's tables, part by part, in the order in which the code looks at them. proofs/FitOfParts.antt shows
--- that it is `fitTables`.
+-- Order: the fitness of a network's tables, part by part, as the code looks at them. proofs/FitOfParts.antt shows that it is
+-- `fitTables`.
 use Prim.Native.Nat.{ℕ, _+_, _*_, _-_}
 use mathlib.Core.Bool.{Bool, _&&_, _||_, Bool·beq}
 use mathlib.Core.List.{List}

@@ -1,4 +1,5 @@
--- One unit's table among those of all: taken out, put back, and whether one of its links is up.
+-- Order: one unit's table among those of all: taken out, put back, and whether one of its links is up; for any numbers.
+-- proofs/TableThere.antt and proofs/FitTables.antt lead from the tables of a network to these.
 use Prim.Native.Nat.{ℕ, _*_, _+_}
 use mathlib.Core.Bool.{Bool, not, _&&_}
 use mathlib.Core.List.{List}

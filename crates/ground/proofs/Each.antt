@@ -4,11 +4,7 @@ use native.Mathlib.Nat.{not-suc-le-zero}
 use native.Mathlib.Omega.{arith}
 use mathlib.Core.List.{List, [], _∷_, _++_}
 use lib.ListN.{length, getD, drop}
-
--- P holds of each member of a list.
-pub data Each {A : Type 0} (P : A → Type 0) : List A → Type 0 where
-  none : Each P []
-  one : {x : A} {xs : List A} → P x → Each P xs → Each P (x ∷ xs)
+use Rattle.ground.specs.Each.{Each, none, one}
 
 module _ {A : Type 0} {P : A → Type 0} where
   -- What holds of each member of a list holds of its first.

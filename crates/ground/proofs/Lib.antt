@@ -9,11 +9,13 @@ pub mod Joined
 pub mod Limits
 pub mod Lists
 pub mod Nothing
+pub mod OneOutput
 pub mod Parts
 pub mod Pigeonhole
 pub mod Places
 pub mod Refusal
 pub mod Rows
+pub mod Said
 pub mod Stored
 pub mod Tests
 pub mod Unique

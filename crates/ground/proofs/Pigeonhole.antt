@@ -8,13 +8,10 @@ use mathlib.Core.List.{List, [], _∷_}
 use mathlib.Core.Logic.{_≢_, ⊎-elim}
 use mathlib.Core.Path.{_≡_, refl, ap}
 use lib.ListN.{length}
-use Rattle.ground.proofs.Each.{Each, none, one, each-first, each-rest, each-map}
+use Rattle.ground.specs.Distinct.{Distinct, alone, apart}
+use Rattle.ground.specs.Each.{Each, none, one}
+use Rattle.ground.proofs.Each.{each-first, each-rest, each-map}
 use Rattle.ground.proofs.Rows.{below-suc}
-
--- The numbers of a list are pairwise distinct.
-pub data Distinct : List ℕ → Type 0 where
-  alone : Distinct []
-  apart : {x : ℕ} {xs : List ℕ} → Each (λ y. x ≢ y) xs → Distinct xs → Distinct (x ∷ xs)
 
 -- Each number of a list is below n.
 abbrev pub Below : ℕ → List ℕ → Type 0

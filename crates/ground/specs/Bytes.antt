@@ -1,4 +1,5 @@
--- Bytes that have a meaning in what is read and printed: the end of a line, the space, the comma, the hyphen, the digit 0.
+-- Words: bytes that have a meaning in what is read and printed: the end of a line, the space, the comma, the hyphen, the
+-- digit 0.
 use Prim.Native.Nat.{ℕ}
 
 abbrev pub newline : ℕ

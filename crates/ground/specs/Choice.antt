@@ -1,4 +1,4 @@
--- A choice by a test, as the rules write it.
+-- Words: a choice by a test, as the rules write it.
 use mathlib.Core.Bool.{Bool, true, false}
 
 infixr 10 if_then_else_

@@ -1,4 +1,4 @@
--- The numbers that bound the product, each named here and nowhere else.
+-- Rule: the numbers that bound the product, each named here and nowhere else.
 use Prim.Native.Nat.{ℕ, _+_, _-_, _*_}
 use mathlib.Core.Bool.{Bool, _&&_}
 use lib.Dec.{leb}

@@ -1,4 +1,4 @@
--- Refusals: "The lowest number that applies is given." They are written by rising number, and the first that applies
+-- Rule: "The lowest number that applies is given." Refusals are written by rising number, and the first that applies
 -- counts.
 use Prim.Native.Nat.{ℕ}
 use mathlib.Core.Bool.{Bool}

@@ -1,5 +1,5 @@
--- Rows: lists of numbers indexed by unit, and questions over all units below a count. Each recursion runs as a loop
--- that counts up runs, so that one more turn of the loop is one more step of the definition.
+-- Words: rows, which are lists of numbers indexed by unit, and questions over all units below a count. Each recursion runs as
+-- a loop that counts up runs, so that one more turn of the loop is one more step of the definition.
 use Prim.Native.Nat.{ℕ, zero, suc, _+_, _-_, _/_, _%_, _^_, min}
 use mathlib.Core.Bool.{Bool, true, false, _&&_, _||_}
 use mathlib.Core.List.{List, [], _∷_, _++_, map}

@@ -19,7 +19,7 @@ use Rattle.rules.specs.Tables.{networkWords, networkBytes}
 use Rattle.rules.specs.Tracer.{circling, trace, hops}
 use Rattle.loopfree.specs.Reached.{reached, Follows}
 use Rattle.lasting.specs.ReachedTables.{Tables, runTables, reachedTables, networkOf, startTables}
-use Rattle.ground.proofs.Pigeonhole.{Distinct}
+use Rattle.ground.specs.Distinct.{Distinct}
 use Rattle.loopfree.proofs.NoCircle as NoCircle
 use Rattle.loopfree.proofs.NoCircle.{LoopFree, loop-free}
 use Rattle.lasting.proofs.TablesReached.{tables-start, start-tables-hold, tables-hold}

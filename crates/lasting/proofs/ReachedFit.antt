@@ -18,7 +18,7 @@ use Rattle.loopfree.proofs.InvariantOfConditions.{start-holds}
 use Rattle.loopfree.proofs.ShapedStart.{start-fit, start-shaped}
 use Rattle.loopfree.proofs.Invariant.{Holds, Any}
 use Rattle.loopfree.proofs.Kept.{keeps-call, fresh-holds}
-use Rattle.ground.proofs.Each.{none}
+use Rattle.ground.specs.Each.{none}
 use Rattle.ground.proofs.Tests.{both}
 use Rattle.rules.proofs.Fit.{FitNetwork, fit-network-of}
 use Rattle.rules.proofs.LaidNetwork.{ShapedNetwork}

@@ -15,7 +15,7 @@ use Rattle.rules.specs.Message.{Message, update, holdsUpdate, holdsAcknowledgme
 use Rattle.rules.specs.Network.{Network, Call, queue, isUp, outcome, overflows, refusalOf, fitQueued}
 use Rattle.loopfree.specs.Conditions.{countIn, updatesIn, acknowledgmentsIn, isStart}
 use Rattle.loopfree.specs.Reached.{run, reached}
-use Rattle.ground.proofs.Each.{none, one}
+use Rattle.ground.specs.Each.{none, one}
 use Rattle.ground.proofs.Lists.{parts}
 use Rattle.ground.proofs.Rows.{some-at}
 use Rattle.ground.proofs.Tests.{not-yes}

@@ -1,5 +1,5 @@
--- The lent tables that calls reach: the fresh network of any legal count, or any fit tables whose network meets the
--- conditions, then any finite sequence of link up, link down, cost change and delivery calls with any arguments, refused
+-- Rule: the lent tables that demand 3 speaks of: the fresh network of any legal count, or any fit tables whose network meets
+-- the conditions, then any finite sequence of link up, link down, cost change and delivery calls with any arguments, refused
 -- ones included, each leaving the tables that its contract gives.
 use Prim.Native.Nat.{ℕ}
 use mathlib.Core.Bool.{Bool, _&&_}
@@ -14,16 +14,16 @@ pub record Tables : Type 0 where
   pub words : List ℕ
   pub bytes : List ℕ
 
--- "each leaving the tables that its contract gives": a call's, with any arguments; a refused one leaves them as they are.
+-- The tables that a call leaves by its contract, with any arguments; a refused one leaves them as they are.
 abbrev pub after : Tables → Call → Tables
 after t call = record { words = wordsAfter (t .words) (t .bytes) call; bytes = bytesAfter (t .words) (t .bytes) call }
 
--- "any finite sequence of link up, link down, cost change and delivery calls .., refused ones included"
+-- "after any sequence of link events, cost changes and deliveries, refused ones included"
 unfoldable pub runTables : Tables → List Call → Tables
 runTables t [] = t
 runTables t (call ∷ rest) = runTables (after t call) rest
 
--- "the fresh network of any count", laid into any tables that are lent.
+-- "From the fresh network", of any count, laid into any tables that are lent.
 abbrev pub freshTables : (words bytes : List ℕ) (n : ℕ) → Tables
 freshTables words bytes n = record { words = freshWords words bytes n; bytes = freshBytes words bytes n }
 

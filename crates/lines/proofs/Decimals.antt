@@ -39,7 +39,7 @@ value-below word (suc i) digits =
 
 module _ (word : List ℕ) (decimal : isDecimal word ≡ true) where
   -- A decimal has no more digits than it may.
-  decimal-short : length word ≤ digitLimit
+  pub decimal-short : length word ≤ digitLimit
   unfolding isDecimal
   decimal-short = leb-true (length word) digitLimit (search parts)
 

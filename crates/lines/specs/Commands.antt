@@ -1,13 +1,13 @@
--- "a command on each line: `units n`, `up a b ca cb`, `cost a b c`, `down a b`, `deliver a b`, `show`; single spaces,
+-- Rule: "a command on each line: `units n`, `up a b ca cb`, `cost a b c`, `down a b`, `deliver a b`, `show`; single spaces,
 -- decimals of at most 9 digits without leading zeros."
-use Prim.Native.Nat.{ℕ, zero, suc}
+use Prim.Native.Nat.{ℕ, zero, suc, _+_, _*_}
 use mathlib.Core.Bool.{Bool, _&&_}
 use mathlib.Core.List.{List}
 use lib.Dec.{eqb, leb}
 use lib.ListN.{length, drop}
 use Rattle.ground.specs.Choice.{if_then_else_}
 use Rattle.ground.specs.Rows.{same}
-use Rattle.lines.specs.Words.{firstWord, afterWord, isDecimal, valueOf}
+use Rattle.lines.specs.Words.{firstWord, afterWord, digitLimit, isDecimal, valueOf}
 use Rattle.lines.specs.Words.{unitsName, upName, costName, downName, deliverName, showName}
 use Rattle.lines.specs.declared.Command.{Command}
 use Rattle.lines.specs.declared.Command.the-variants.{Units, Up, Cost, Down, Deliver, Show, Bad}
@@ -26,6 +26,10 @@ argument (suc i) rest = argument i (afterWord (drop 1 rest))
 -- Whether a line is the name and k decimals.
 abbrev pub isSpelled : (name : List ℕ) (k : ℕ) (line : List ℕ) → Bool
 isSpelled name k line = same (firstWord line) name && isArguments k (afterWord line)
+
+-- The bytes of the longest command: `up`, and four decimals, each after a space.
+abbrev pub longestCommand : ℕ
+longestCommand = length upName + 4 * (1 + digitLimit)
 
 -- The command that a line is.
 unfoldable pub commandOf : (line : List ℕ) → Command

@@ -1,4 +1,5 @@
--- What is found of the decimals that follow a word, and the command that a word and they are.
+-- Order: what is found of the decimals that follow a word, and the command that a word and they are. proofs/Choosing.antt shows
+-- that it is `commandOf`.
 use Prim.Native.Nat.{ℕ, _≤_, _<_}
 use mathlib.Core.Bool.{_&&_}
 use mathlib.Core.List.{List}

@@ -1,4 +1,4 @@
--- Words of a line, as lists of bytes: where a word ends, decimals and the numbers that they are, and the commands' names.
+-- Rule: words of a line, as lists of bytes: where a word ends, decimals and the numbers that they are, and the commands' names.
 use Prim.Native.Nat.{ℕ, zero, suc, _+_, _-_, _*_}
 use mathlib.Core.Bool.{Bool, not, _&&_, _||_}
 use mathlib.Core.List.{List, [], _∷_}

@@ -1,4 +1,4 @@
--- The lines of `show` from what is asked of a unit.
+-- Order: the lines of `show` from what is asked of a unit. proofs/ShownUnits.antt shows that they are `unitLines`.
 use Prim.Native.Nat.{ℕ}
 use mathlib.Core.List.{List, [], _++_}
 use lib.Dec.{eqb}

@@ -1,4 +1,4 @@
--- What `show` prints of a network's units, by the rules.
+-- Rule: what `show` prints of a network's units.
 use Prim.Native.Nat.{ℕ}
 use mathlib.Core.List.{List, [], _++_}
 use lib.Dec.{eqb}

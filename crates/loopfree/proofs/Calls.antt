@@ -12,7 +12,8 @@ use borrow.Author.Tests.{eq-eqb}
 use Rattle.ground.specs.Choice.{if_then_else_}
 use Rattle.ground.specs.Limits.{unitLimit}
 use Rattle.ground.specs.Rows.{at, zeros}
-use Rattle.ground.proofs.Each.{none, each-first, each-rest}
+use Rattle.ground.specs.Each.{none}
+use Rattle.ground.proofs.Each.{each-first, each-rest}
 use Rattle.tree.specs.Recompute.{copyOf}
 use Rattle.tree.specs.Tree.{distance, isTree}
 use Rattle.rules.specs.Event.{received, linkUp, newCost, linkDown, owedOf, reaction}

@@ -16,7 +16,7 @@ use Rattle.ground.proofs.Rows.{some-ext}
 use Rattle.ground.proofs.Tests.{neither-of}
 use Rattle.tree.specs.Tree.{nothing}
 use Rattle.rules.specs.Event.{changesNothing}
-use Rattle.rules.specs.Message.{change, unitOf, bodyOf, removed, entryOf, bodyFor, differences, applied}
+use Rattle.rules.specs.Message.{change, changedUnit, bodyOf, removed, entryOf, bodyFor, differences, applied}
 use Rattle.rules.proofs.Applied.{withChange, applied-more, length-applied}
 use Rattle.ground.proofs.Cases.{by-test, by-equal}
 
@@ -29,7 +29,7 @@ body-back e c =
 
 -- Its change names its unit and the entry.
 change-back : (j e : ℕ) → e < removed
-    → (unitOf (change j (bodyFor e)) ≡ j) × (entryOf (bodyOf (change j (bodyFor e))) ≡ e)
+    → (changedUnit (change j (bodyFor e)) ≡ j) × (entryOf (bodyOf (change j (bodyFor e))) ≡ e)
 change-back j e c =
     let b : (entryOf (bodyFor e) ≡ e) × (bodyFor e < changeBase) = body-back e c in
     let s : bodyFor e < changeBase = b .1 in
@@ -43,7 +43,7 @@ set-change copy j e c = rw (change-back j e c .0, change-back j e c .1)
 -- Whether some change changes nothing, with one change more.
 nothing-more : (copy changes : List ℕ) (c : ℕ)
     → changesNothing copy (changes ++ (c ∷ []))
-    ≡ changesNothing copy changes || eqb (at copy (unitOf c)) (entryOf (bodyOf c))
+    ≡ changesNothing copy changes || eqb (at copy (changedUnit c)) (entryOf (bodyOf c))
 unfolding changesNothing
 nothing-more copy changes c =
     ap (λ (k : ℕ). some k (idle (changes ++ (c ∷ [])))) (length-append changes (c ∷ []) ∙ add-one (length changes))
@@ -53,7 +53,7 @@ nothing-more copy changes c =
     (ap names (getD-at changes c [] 0 (length changes) refl))
   where
     names : ℕ → Bool
-    names d = eqb (at copy (unitOf d)) (entryOf (bodyOf d))
+    names d = eqb (at copy (changedUnit d)) (entryOf (bodyOf d))
 
     idle : List ℕ → ℕ → Bool
     idle list i = names (at list i)

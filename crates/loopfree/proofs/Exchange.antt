@@ -11,7 +11,8 @@ use mathlib.Core.Logic.{_⊎_, inl, inr}
 use mathlib.Core.Path.{_≡_, refl, sym, ap, _∙_}
 use Rattle.ground.specs.Choice.{if_then_else_}
 use Rattle.ground.specs.Rows.{at, zeros}
-use Rattle.ground.proofs.Each.{Each, none, one, each-rest, each-append, each-map}
+use Rattle.ground.specs.Each.{Each, none, one}
+use Rattle.ground.proofs.Each.{each-rest, each-append, each-map}
 use Rattle.ground.proofs.Tests.{not-both, if-true, if-false}
 use Rattle.tree.specs.Tree.{distance}
 use Rattle.rules.specs.Event.{changesNothing}

@@ -10,8 +10,10 @@ use lib.Dec.{eqb, ltb}
 use lib.ListN.{length, List·getD-eq-default}
 use borrow.Author.Tests.{ltb-true, eqb-false, not-true}
 use Rattle.ground.specs.Rows.{at}
-use Rattle.ground.proofs.Each.{Each, none, one, each-map}
-use Rattle.ground.proofs.Pigeonhole.{Distinct, alone, apart, Below, pigeonhole}
+use Rattle.ground.specs.Each.{Each, none, one}
+use Rattle.ground.proofs.Each.{each-map}
+use Rattle.ground.specs.Distinct.{Distinct, alone, apart}
+use Rattle.ground.proofs.Pigeonhole.{Below, pigeonhole}
 use Rattle.ground.proofs.Tests.{both, less-or-not}
 use Rattle.tree.specs.Recompute.{copyOf}
 use Rattle.tree.specs.Tree.{distance}

@@ -11,7 +11,8 @@ use borrow.Author.Tests.{eqb-true, eq-eqb, ne-eqb, leb-true, le-leb, not-true, n
 use Rattle.ground.specs.Choice.{if_then_else_}
 use Rattle.ground.specs.Limits.{highestCost}
 use Rattle.ground.specs.Rows.{at, tab, every, same}
-use Rattle.ground.proofs.Each.{Each, each-at, each-of, each-map}
+use Rattle.ground.specs.Each.{Each}
+use Rattle.ground.proofs.Each.{each-at, each-of, each-map}
 use Rattle.ground.proofs.Lists.{parts}
 use Rattle.ground.proofs.Rows.{tab-at, every-at, same-eq}
 use Rattle.ground.proofs.Tests.{both, not-both, less-or-not}

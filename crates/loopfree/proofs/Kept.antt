@@ -13,7 +13,7 @@ use Rattle.ground.specs.Choice.{if_then_else_}
 use Rattle.ground.specs.Limits.{far, unitLimit, legalCount}
 use Rattle.ground.specs.Refusal.{accepted}
 use Rattle.ground.specs.Rows.{at, zeros}
-use Rattle.ground.proofs.Each.{none}
+use Rattle.ground.specs.Each.{none}
 use Rattle.ground.proofs.Lists.{at-zeros}
 use Rattle.ground.proofs.Rows.{tab-at, length-tab}
 use Rattle.ground.proofs.Tests.{both, less-or-not}

@@ -15,7 +15,7 @@ use mathlib.Core.Path.{_≡_}
 use lib.ListN.{length}
 use Rattle.ground.specs.Limits.{legalCount}
 use Rattle.ground.specs.Rows.{at}
-use Rattle.ground.proofs.Pigeonhole.{Distinct}
+use Rattle.ground.specs.Distinct.{Distinct}
 use Rattle.rules.specs.Network.{Network, Call, unitAt, isSuccessorIn}
 use Rattle.rules.specs.Tracer.{circling, trace, hops}
 use Rattle.rules.proofs.Fit.{fit-network-of}

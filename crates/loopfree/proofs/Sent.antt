@@ -10,7 +10,7 @@ use lib.ListN.{getD}
 use borrow.Author.Tests.{not-false}
 use Rattle.ground.specs.Choice.{if_then_else_}
 use Rattle.ground.specs.Rows.{at, same}
-use Rattle.ground.proofs.Each.{Each, none, one}
+use Rattle.ground.specs.Each.{Each, none, one}
 use Rattle.ground.proofs.Rows.{tab-at, same-eq}
 use Rattle.ground.proofs.Tests.{both, either, neither}
 use Rattle.rules.specs.Event.{changed, isSentUpdate, differencesFor, newAwaited, messageTo, reactionWith}

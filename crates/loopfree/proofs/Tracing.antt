@@ -12,7 +12,8 @@ use lib.ListN.{length, drop}
 use borrow.Author.Tests.{eqb-false}
 use Rattle.ground.specs.Choice.{if_then_else_}
 use Rattle.ground.specs.Rows.{at, rising}
-use Rattle.ground.proofs.Each.{Each, none, one, each-append, each-at}
+use Rattle.ground.specs.Each.{Each, none, one}
+use Rattle.ground.proofs.Each.{each-append, each-at}
 use Rattle.rules.specs.Network.{Network, unitAt, successorsIn}
 use Rattle.rules.specs.Tracer.{Trace, Ending, arrived, stranded, circling, endsHere, goesOn, chosen, traceFrom, trace}
 use Rattle.rules.specs.Unit.{Unit, isSuccessor, successors}

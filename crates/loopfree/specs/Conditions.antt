@@ -1,5 +1,5 @@
--- The conditions of document 02, No. 5, which every network that calls reach meets, and from which demand 3 holds as it does
--- from the fresh network: "Restoring needs: the tables fit; a unit that awaits nobody has the tree that recomputing gives
+-- Rule: the conditions of document 02, No. 5, which every network that calls reach meets, and from which demand 3 holds as it
+-- does from the fresh network: "Restoring needs: the tables fit; a unit that awaits nobody has the tree that recomputing gives
 -- and feasible distances equal to its distances; over each link up at both ends, an awaited end has exactly one update
 -- queued or its acknowledgment queued back, an end not awaited has neither; the queued update is acceptable on the held
 -- copy and gives the sender's tree, and without one the copy is that tree; each unit's feasible distance is at most its

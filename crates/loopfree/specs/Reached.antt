@@ -1,4 +1,4 @@
--- The networks that demand 3 speaks of, and the ways through them: "From the fresh network, after any sequence of link
+-- Rule: the networks that demand 3 speaks of, and the ways through them: "From the fresh network, after any sequence of link
 -- events, cost changes and deliveries, refused ones included, stopped at any point: following any choice of successors".
 -- A sequence may as well start from any other network that meets the conditions (`isStart`).
 use Prim.Native.Nat.{ℕ, _<_}

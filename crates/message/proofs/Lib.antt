@@ -1,5 +1,7 @@
 -- Laws that several proofs of this crate cite.
-pub mod Borders
+pub mod NumberAnswers
+pub mod OneAnswer
+pub mod OneOutput
 pub mod ReaderAnswers
 pub mod Readings
 pub mod Rising

@@ -1,4 +1,5 @@
--- What a reading is, case by case: which test that the reader makes leads to which answer.
+-- What a reading is, case by case: which test that the reader makes leads to which answer; and that what the reader promises
+-- leaves this reading alone.
 use Prim.Native.Nat.{ℕ, _+_, _-_, _*_, _≤_}
 use native.Mathlib.Omega.{arith}
 use mathlib.Core.Bool.{Bool, true, false, _&&_}
@@ -9,16 +10,82 @@ use lib.Dec.{eqb, leb}
 use lib.ListN.{length, take}
 use Rattle.ground.specs.Choice.{if_then_else_}
 use Rattle.ground.specs.Limits.{legalCount, entryLimit}
-use Rattle.ground.specs.Rows.{at, tab, filled}
-use Rattle.rules.specs.Message.{changeAt, messageOf, legalMessage, readable}
+use Rattle.ground.specs.Refusal.{accepted}
+use Rattle.ground.specs.Rows.{at, tab, zeros, filled}
+use Rattle.ground.specs.Said.{acceptedWith, refusedWith, said}
+use Rattle.rules.specs.Message.{Message, changeAt, messageOf, legalMessage, readable, readRefusal}
 use Rattle.ground.proofs.Filled.{take-filled}
 use Rattle.ground.proofs.Limits.{count-legal}
 use Rattle.ground.proofs.Rows.{length-tab}
 use Rattle.ground.proofs.Tests.{both, both-of, and-false, and-no}
 use Rattle.message.specs.Fields.{fieldsOf}
-use Rattle.message.specs.Reading.{refusedReading, acceptedReading, readingOf, isFramed, Framed}
-use Rattle.message.specs.declared.reader.Answer.the-variants.{Message as Accepted}
+use Rattle.message.specs.Reading.{readingSaid, messageValues, changesRead, isFramed, Framed}
+use Rattle.message.specs.declared.reader.Answer.the-variants.{Message as Accepted, Refused as Unread}
 use Rattle.message.specs.declared.reader.Reading.{Reading}
+use Rattle.message.proofs.OneAnswer.{one-reading}
+
+-- The reading that a refusal leaves, and that of a message.
+abbrev pub refusedReading : (number : ℕ) → Reading
+refusedReading number = record { answer = Unread number; changes = zeros entryLimit }
+
+abbrev pub acceptedReading : Message → Reading
+acceptedReading m =
+    record {
+      answer = Accepted (m .kind) (m .sender) (length (m .changes));
+      changes = filled entryLimit (m .changes);
+    }
+
+-- The reading of bytes.
+unfoldable pub readingOf : (n : ℕ) (bytes : List ℕ) → Reading
+readingOf n bytes =
+    if eqb (readRefusal n bytes) accepted then acceptedReading (messageOf bytes) else refusedReading (readRefusal n bytes)
+
+-- What the reader promises of a reading, and what it is in a refusal.
+abbrev pub Promised : (n : ℕ) (bytes : List ℕ) → Reading → Type 0
+Promised n bytes reading =
+    (readingSaid (reading .answer) ≡ said (readRefusal n bytes) (messageValues (messageOf bytes)))
+    × (reading .changes ≡ changesRead n bytes)
+
+abbrev pub Alone : (number : ℕ) → Reading → Type 0
+Alone number reading = (readingSaid (reading .answer) ≡ refusedWith number) × (reading .changes ≡ zeros entryLimit)
+
+-- A reading is its answer and its changes.
+same-reading : (a b : Reading) → readingSaid (a .answer) ≡ readingSaid (b .answer) → a .changes ≡ b .changes → a ≡ b
+same-reading a b e f =
+    let answer : a .answer ≡ b .answer = one-reading (a .answer) (b .answer) e in
+    λ i. record { answer = answer i; changes = f i }
+
+module _ (refusal : ℕ) (m : Message) where
+  -- Either way the reading says what is to be said, and has the changes.
+  says : (t : Bool)
+      → readingSaid ((if t then acceptedReading m else refusedReading refusal) .answer)
+      ≡ (if t then acceptedWith (messageValues m) else refusedWith refusal)
+  says true = refl
+  says false = refl
+
+  holds : (t : Bool)
+      → (if t then acceptedReading m else refusedReading refusal) .changes
+      ≡ (if t then filled entryLimit (m .changes) else zeros entryLimit)
+  holds true = refl
+  holds false = refl
+
+module _ (n : ℕ) (bytes : List ℕ) where
+  -- The reading of bytes is as promised, and nothing else is.
+  promised : Promised n bytes (readingOf n bytes)
+  unfolding readingOf said changesRead
+  promised =
+      let refusal = readRefusal n bytes in
+      (says refusal (messageOf bytes) (eqb refusal accepted), holds refusal (messageOf bytes) (eqb refusal accepted))
+
+  pub reads-as : (reading : Reading) → Promised n bytes reading → reading ≡ readingOf n bytes
+  reads-as reading p = same-reading reading (readingOf n bytes) (p .0 ∙ sym (promised .0)) (p .1 ∙ sym (promised .1))
+
+  pub as-read : {reading : Reading} → reading ≡ readingOf n bytes → Promised n bytes reading
+  as-read e = rw e promised
+
+  pub as-refused : (reading : Reading) {number : ℕ} → Alone number reading → readingOf n bytes ≡ refusedReading number
+      → Promised n bytes reading
+  as-refused reading {number} p e = as-read (same-reading reading (refusedReading number) (p .0) (p .1) ∙ sym e)
 
 module _ (n : ℕ) (bytes : List ℕ) where
   -- A count that is not legal; bytes that are not readable; bytes that are.

@@ -7,17 +7,17 @@ use mathlib.Core.List.{List}
 use mathlib.Core.Path.{_≡_, refl}
 use lib.Dec.{leb·zero, eqb·suc-zero}
 use Rattle.ground.specs.Rows.{at}
-use Rattle.rules.specs.Message.{unitOf, bodyOf, legalUnit, legalBody}
+use Rattle.rules.specs.Message.{changedUnit, bodyOf, legalUnit, legalBody}
 use Rattle.message.specs.Fields.{legalFrom}
 
 -- The lowest unit that the change at place i may have.
 abbrev pub lowestAt : (changes : List ℕ) (i : ℕ) → ℕ
 lowestAt changes zero = 0
-lowestAt changes (suc i) = unitOf (at changes i) + 1
+lowestAt changes (suc i) = changedUnit (at changes i) + 1
 
 abbrev pub legalAt : (n sender : ℕ) (changes : List ℕ) (i : ℕ) → Bool
 legalAt n sender changes i =
-    legalUnit n sender changes i && legalBody n (unitOf (at changes i)) (bodyOf (at changes i))
+    legalUnit n sender changes i && legalBody n (changedUnit (at changes i)) (bodyOf (at changes i))
 
 suc-sub-one : (i : ℕ) → suc i - 1 ≡ i
 suc-sub-one i = omega arith

@@ -13,10 +13,8 @@ use Rattle.rules.specs.Message.{Message, written, writtenLength, messageOf, rea
 use Rattle.ground.proofs.Lists.{Under}
 use Rattle.ground.proofs.Refusal.{gives-none, otherwise-none}
 use Rattle.rules.proofs.Written.{written-length, written-readable, reads-back, readable-of, writes-back}
-use Rattle.message.specs.Reading.{acceptedReading, readingOf}
 use Rattle.message.specs.Writing.{frameAfter}
-use Rattle.message.proofs.Readings.{is-readable}
-use Rattle.message.proofs.Writings.{unrefused, writable, by-fields}
+use Rattle.message.proofs.Writings.{unrefused, writable}
 
 -- The part of the frame that a message takes.
 abbrev pub laidPart : (n : ℕ) → Message → (frame : List ℕ) (offset : ℕ) → List ℕ
@@ -33,12 +31,10 @@ laid-part n m frame offset e =
 
 -- Whatever the writer accepts reads back as itself.
 pub written-reads-back : (n : ℕ) (m : Message) (frame : List ℕ) (offset : ℕ) → writeRefusal n m (length frame) offset ≡ accepted
-    → readingOf n (laidPart n m frame offset) ≡ acceptedReading m
+    → (readRefusal n (laidPart n m frame offset) ≡ accepted) × (messageOf (laidPart n m frame offset) ≡ m)
 written-reads-back n m frame offset e =
     let tests = unrefused n m (length frame) offset e in
-    ap (readingOf n) (laid-part n m frame offset e)
-    ∙ is-readable n (written m) (tests .count) (written-readable n m (tests .fields))
-    ∙ ap acceptedReading (reads-back m)
+    rw (laid-part n m frame offset e) (rw (tests .count, written-readable n m (tests .fields)), reads-back m)
 
 -- Bytes that the reader accepts: their message is accepted by the writer wherever there is room, and gives the same bytes.
 module _ (n : ℕ) (bytes : List ℕ) (e : readRefusal n bytes ≡ accepted) (frame : List ℕ) (offset : ℕ) where
@@ -52,7 +48,7 @@ module _ (n : ℕ) (bytes : List ℕ) (e : readRefusal n bytes ≡ accepted) (fr
   pub read-writes : noRoom (length frame) offset (length (messageOf bytes .changes)) ≡ false
       → writeRefusal n (messageOf bytes) (length frame) offset ≡ accepted
   read-writes room =
-      by-fields n (messageOf bytes) (length frame) offset (tests .0) room true (sym (readable-of n bytes (tests .1) .legal))
+      rw (tests .0, room, readable-of n bytes (tests .1) .legal)
 
   pub read-writes-back : noRoom (length frame) offset (length (messageOf bytes .changes)) ≡ false → Under 256 bytes
       → take (length bytes) (drop offset (frameAfter n (messageOf bytes) frame offset)) ≡ bytes

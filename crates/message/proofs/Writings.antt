@@ -1,4 +1,4 @@
--- What the writer's tests and stores come to: which refusal, and the message's bytes one store after the other.
+-- What the writer's tests and stores come to: which refusal, the message's bytes one store after the other, and what is said.
 use Prim.Native.Nat.{ℕ, _+_, _-_, _*_, _/_, _%_, _≤_, _<_}
 use native.Mathlib.Nat.{zero-add}
 use native.Mathlib.Numerals.{add-one}
@@ -18,14 +18,16 @@ use Rattle.ground.specs.Choice.{if_then_else_}
 use Rattle.ground.specs.Limits.{legalCount, unitLimit, messageRoom, entryBase, changeBase}
 use Rattle.ground.specs.Refusal.{accepted, _gives_, _otherwise_}
 use Rattle.ground.specs.Rows.{at, filled}
-use Rattle.rules.specs.Message.{Message, unitOf, bodyBytes, written, noRoom, legalMessage, writeRefusal, messageLaid}
+use Rattle.ground.specs.Said.{refusedWith, said}
+use Rattle.rules.specs.Message.{Message, changedUnit, bodyBytes, written, noRoom, legalMessage, writeRefusal, messageLaid}
 use Rattle.ground.proofs.Filled.{filled-more, take-filled}
 use Rattle.ground.proofs.Parts.{to-end, put-to-end}
-use Rattle.ground.proofs.Refusal.{gives-none, otherwise-none}
+use Rattle.ground.proofs.Refusal.{gives-none, otherwise-none, first-counts, in-a-row}
+use Rattle.ground.proofs.Said.{said-accepted, said-refused}
 use Rattle.ground.proofs.Tests.{both, neither}
 use Rattle.rules.proofs.LegalMessages.{legal-of}
 use Rattle.rules.proofs.Written.{length-bodies, written-length}
-use Rattle.message.specs.Writing.{Fitting, laidAtStart, writingOf, frameAfter}
+use Rattle.message.specs.Writing.{writingSaid, lengthValue, frameAfter, Fitting, roomRefusal, laidAtStart}
 use Rattle.message.specs.declared.writer.Written.the-variants.{Length, Refused}
 
 -- The room, counted in fours.
@@ -40,11 +42,19 @@ pub long-enough : (places offset entries : ℕ) → offset ≤ places → entrie
 long-enough places offset entries h long =
     rw (le-ltb places offset h) (le-ltb (places - offset) (4 + 4 * entries) (omega arith))
 
--- With a legal count and room, the fields decide.
-pub by-fields : (n : ℕ) (m : Message) (places offset : ℕ) → legalCount n ≡ true → noRoom places offset (length (m .changes)) ≡ false
-    → (test : Bool) → test ≡ legalMessage n m → writeRefusal n m places offset ≡ (if test then 0 else 9)
-by-fields n m places offset count room true t = rw (count, room, ← t)
-by-fields n m places offset count room false t = rw (count, room, ← t)
+-- The count and the room are looked at first, and then the fields decide.
+module _ (n : ℕ) (m : Message) (places offset : ℕ) {number : ℕ} (found : number ≡ roomRefusal n (length (m .changes)) places offset) where
+  in-order : writeRefusal n m places offset ≡ (number otherwise not (legalMessage n m) gives 9)
+  in-order =
+      in-a-row (not (legalCount n) gives 1) (noRoom places offset (length (m .changes)) gives 7) (not (legalMessage n m) gives 9)
+      ∙ ap (λ (first : ℕ). first otherwise not (legalMessage n m) gives 9) (sym found)
+
+  pub by-room : number ≢ accepted → number ≡ writeRefusal n m places offset
+  by-room some = sym (in-order ∙ first-counts number (not (legalMessage n m) gives 9) some)
+
+  pub by-fields : number ≡ accepted → (test : Bool) → test ≡ legalMessage n m → writeRefusal n m places offset ≡ (if test then 0 else 9)
+  by-fields none true t = in-order ∙ rw (none, ← t)
+  by-fields none false t = in-order ∙ rw (none, ← t)
 
 -- One more element of a list, mapped: what a turn of the loop over the contents adds.
 map-snoc : (f : ℕ → ℕ) (xs : List ℕ) (x : ℕ) → map f (xs ++ (x ∷ [])) ≡ map f xs ++ (f x ∷ [])
@@ -81,13 +91,13 @@ module _ (m : ℕ) (front changes : List ℕ) (i : ℕ) (below : i < length chan
 
   -- A turn of the loop over the contents.
   pub contents-more : length front + i < m
-      → set (filled m (front ++ map unitOf (take i changes))) (length front + i) (unitOf (at changes i))
-      ≡ filled m (front ++ map unitOf (take (i + 1) changes))
+      → set (filled m (front ++ map changedUnit (take i changes))) (length front + i) (changedUnit (at changes i))
+      ≡ filled m (front ++ map changedUnit (take (i + 1) changes))
   contents-more room =
-      filled-more m (front ++ map unitOf (take i changes)) (length front + i) (unitOf (at changes i)) long room
-      ∙ ap (filled m) (append-assoc front _ _ ∙ ap (λ (l : List ℕ). front ++ l) (sym (rw next (map-snoc unitOf (take i changes) (at changes i)))))
+      filled-more m (front ++ map changedUnit (take i changes)) (length front + i) (changedUnit (at changes i)) long room
+      ∙ ap (filled m) (append-assoc front _ _ ∙ ap (λ (l : List ℕ). front ++ l) (sym (rw next (map-snoc changedUnit (take i changes) (at changes i)))))
     where
-      long : length (front ++ map unitOf (take i changes)) ≡ length front + i
+      long : length (front ++ map changedUnit (take i changes)) ≡ length front + i
       long = simp (length-append, length-map) (omega (arith, passed))
 
   -- A turn of the loop over the bodies: three stores.
@@ -115,7 +125,7 @@ module _ (m : ℕ) (front changes : List ℕ) (i : ℕ) (below : i < length chan
 pub low-byte : (x : ℕ) → x < 256 → x % 256 ≡ x
 low-byte x h = omega arith
 
-pub high-byte : (c : ℕ) → Fits w32 c → c / changeBase % 256 ≡ unitOf c
+pub high-byte : (c : ℕ) → Fits w32 c → c / changeBase % 256 ≡ changedUnit c
 high-byte c h = omega (arith, h)
 
 -- A turn of the loop that copies to the start of a place.
@@ -179,14 +189,16 @@ laid-in-frame m frame offset =
 -- The answer and the frame, by the refusal's number.
 module _ (n : ℕ) (m : Message) (frame : List ℕ) (offset : ℕ) where
   pub refused-writing : (number : ℕ) → number ≡ writeRefusal n m (length frame) offset → number ≢ accepted
-      → (Refused number ≡ writingOf n m (length frame) offset) × (frame ≡ frameAfter n m frame offset)
-  unfolding writingOf frameAfter
-  refused-writing number e some = (rw (← e, ne-eqb number accepted some), rw (← e, ne-eqb number accepted some))
+      → (writingSaid (Refused number) ≡ said (writeRefusal n m (length frame) offset) (lengthValue m)) × (frame ≡ frameAfter n m frame offset)
+  unfolding frameAfter
+  refused-writing number e some =
+      (ap refusedWith e ∙ sym (said-refused _ _ (λ none. some (e ∙ none))), rw (← e, ne-eqb number accepted some))
 
   pub accepted-writing : (after : List ℕ) → writeRefusal n m (length frame) offset ≡ accepted → after ≡ messageLaid m frame offset
-      → (Length (4 + 4 * length (m .changes)) ≡ writingOf n m (length frame) offset) × (after ≡ frameAfter n m frame offset)
-  unfolding writingOf frameAfter
-  accepted-writing after e laid = (rw e, rw e laid)
+      → (writingSaid (Length (4 + 4 * length (m .changes))) ≡ said (writeRefusal n m (length frame) offset) (lengthValue m))
+      × (after ≡ frameAfter n m frame offset)
+  unfolding frameAfter
+  accepted-writing after e laid = (sym (said-accepted _ _ e), rw e laid)
 
   -- The same from the number that was found, and from the part of the frame that was laid.
   module _ {number : ℕ} (found : number ≡ writeRefusal n m (length frame) offset) (none : number ≡ accepted) where
@@ -194,7 +206,7 @@ module _ (n : ℕ) (m : Message) (frame : List ℕ) (offset : ℕ) where
     writable-by = writable n m (length frame) offset (sym found ∙ none)
 
     pub laid-writing : {part : List ℕ} → part ≡ laidAtStart m (take (length frame - offset) (drop offset frame))
-        → (Length (4 + 4 * length (m .changes)) ≡ writingOf n m (length frame) offset)
+        → (writingSaid (Length (4 + 4 * length (m .changes))) ≡ said (writeRefusal n m (length frame) offset) (lengthValue m))
         × (putMid offset (length frame - offset) frame part ≡ frameAfter n m frame offset)
     laid-writing e =
         accepted-writing _ (sym found ∙ none) (ap (putMid offset (length frame - offset) frame) e ∙ laid-in-frame m frame offset)

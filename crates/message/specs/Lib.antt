@@ -1,5 +1,5 @@
 -- What the reader and the writer answer.
-pub mod Border
 pub mod Fields
+pub mod Numbers
 pub mod Reading
 pub mod Writing

@@ -1,7 +1,8 @@
--- What the reader answers: for each case of its answer, document 01's number and values.
+-- Rule: what the reader answers: "kind, sender and entry count, or refusal; the entries' array beside it".
+-- Order: `isFramed`, `Framed`: which part of the layout is looked at first (proofs/Readings.antt).
 use Prim.Native.Nat.{ℕ, _+_, _*_, _≤_}
 use mathlib.Core.Bool.{Bool, true, _&&_}
-use mathlib.Core.List.{List}
+use mathlib.Core.List.{List, [], _∷_}
 use mathlib.Core.Path.{_≡_}
 use lib.Dec.{eqb}
 use lib.ListN.{length}
@@ -9,32 +10,23 @@ use Rattle.ground.specs.Choice.{if_then_else_}
 use Rattle.ground.specs.Limits.{entryLimit, unitLimit}
 use Rattle.ground.specs.Refusal.{accepted}
 use Rattle.ground.specs.Rows.{at, zeros, filled}
+use Rattle.ground.specs.Said.{Said, acceptedWith, refusedWith}
 use Rattle.rules.specs.Message.{Message, edition, writtenLength, messageOf, readRefusal}
 use Rattle.message.specs.declared.reader.Answer.{Answer}
 use Rattle.message.specs.declared.reader.Answer.the-variants.{Message as Accepted, Refused}
-use Rattle.message.specs.declared.reader.Reading.{Reading}
 
--- The number that an answer stands for.
-abbrev pub numberOf : Answer → ℕ
-numberOf (Accepted kind sender entries) = accepted
-numberOf (Refused number) = number
+-- Document 01's number and values for each case of the reader's answer.
+abbrev pub readingSaid : Answer → Said
+readingSaid (Accepted kind sender entries) = acceptedWith (kind ∷ sender ∷ entries ∷ [])
+readingSaid (Refused number) = refusedWith number
 
-abbrev pub refusedReading : (number : ℕ) → Reading
-refusedReading number = record { answer = Refused number; changes = zeros entryLimit }
+-- "kind, sender and entry count": the values of a message.
+abbrev pub messageValues : Message → List ℕ
+messageValues m = m .kind ∷ m .sender ∷ length (m .changes) ∷ []
 
-abbrev pub acceptedReading : Message → Reading
-acceptedReading m =
-    record {
-      answer = Accepted (m .kind) (m .sender) (length (m .changes));
-      changes = filled entryLimit (m .changes);
-    }
-
--- The reading that a refusal's number and a message stand for.
-abbrev pub readingWith : (refusal : ℕ) → Message → Reading
-readingWith refusal m = if eqb refusal accepted then acceptedReading m else refusedReading refusal
-
-unfoldable pub readingOf : (n : ℕ) (bytes : List ℕ) → Reading
-readingOf n bytes = readingWith (readRefusal n bytes) (messageOf bytes)
+-- "the entries' array beside it": the message's changes with zeros after the last, and zeros beside a refusal.
+unfoldable pub changesRead : (n : ℕ) (bytes : List ℕ) → List ℕ
+changesRead n bytes = if eqb (readRefusal n bytes) accepted then filled entryLimit (messageOf bytes .changes) else zeros entryLimit
 
 -- The part of the layout that comes before the fields: the edition, and the length that the number of entries asks for.
 unfoldable pub isFramed : (bytes : List ℕ) → Bool

@@ -1,21 +1,29 @@
--- What the writer answers and what it leaves in the frame: for each case of its answer, document 01's number and values.
+-- Rule: what the writer answers, "its length" or a refusal, and what it leaves in the frame.
+-- Order: `roomRefusal`, `contentsOf`, `laidAtStart`, `Fitting`: what is looked at first, and how the bytes are stored
+-- (proofs/Writings.antt).
 use Prim.Native.Nat.{ℕ, _≤_, _<_}
-use mathlib.Core.List.{List, _∷_, _++_, map}
+use mathlib.Core.Bool.{not}
+use mathlib.Core.List.{List, [], _∷_, _++_, map}
 use lib.Dec.{eqb}
 use lib.ListN.{length, drop}
 use Rattle.ground.specs.Choice.{if_then_else_}
-use Rattle.ground.specs.Limits.{entryLimit}
-use Rattle.ground.specs.Refusal.{accepted}
-use Rattle.rules.specs.Message.{Message, edition, unitOf, written, writtenLength, writeRefusal, messageLaid}
+use Rattle.ground.specs.Limits.{entryLimit, legalCount}
+use Rattle.ground.specs.Refusal.{accepted, _gives_, _otherwise_}
+use Rattle.ground.specs.Said.{Said, acceptedWith, refusedWith}
+use Rattle.rules.specs.Message.{Message, edition, changedUnit, written, writtenLength, noRoom, writeRefusal, messageLaid}
 use Rattle.message.specs.declared.writer.Written.{Written}
 use Rattle.message.specs.declared.writer.Written.the-variants.{Length, Refused}
 
--- The number that an answer stands for.
-abbrev pub numberOf : Written → ℕ
-numberOf (Length bytes) = accepted
-numberOf (Refused number) = number
+-- Document 01's number and values for each case of the writer's answer.
+abbrev pub writingSaid : Written → Said
+writingSaid (Length bytes) = acceptedWith (bytes ∷ [])
+writingSaid (Refused number) = refusedWith number
 
--- The answer that a refusal's number and a length stand for.
+-- "answers its length": the value of a message that is written.
+abbrev pub lengthValue : Message → List ℕ
+lengthValue m = writtenLength (length (m .changes)) ∷ []
+
+-- The answer itself, by the refusal and the length: the exported writer's number is stated of it.
 abbrev pub answerWith : (refusal bytes : ℕ) → Written
 answerWith refusal bytes = if eqb refusal accepted then Length bytes else Refused refusal
 
@@ -27,9 +35,13 @@ unfoldable pub frameAfter : (n : ℕ) → Message → (frame : List ℕ) (offset
 frameAfter n m frame offset =
     if eqb (writeRefusal n m (length frame) offset) accepted then messageLaid m frame offset else frame
 
+-- What is looked at before the fields: the count, and the room for so many entries.
+abbrev pub roomRefusal : (n entries places offset : ℕ) → ℕ
+roomRefusal n entries places offset = not (legalCount n) gives 1 otherwise noRoom places offset entries gives 7
+
 -- The table of contents.
 abbrev pub contentsOf : (kind sender : ℕ) (changes : List ℕ) → List ℕ
-contentsOf kind sender changes = edition ∷ sender ∷ kind ∷ length changes ∷ map unitOf changes
+contentsOf kind sender changes = edition ∷ sender ∷ kind ∷ length changes ∷ map changedUnit changes
 
 -- A message at the start of a buffer, whose other bytes stay.
 unfoldable pub laidAtStart : Message → (place : List ℕ) → List ℕ

@@ -9,9 +9,8 @@
 //
 // `fields` tests what both directions share, whether the fields are those of a legal message. `reader` takes bytes apart
 // and then asks `fields`; `writer` asks `fields` and then puts the bytes together. Neither keeps anything: a refusal leaves
-// the caller's frame as it came.
-// `border` exports the two to firmware in C, over lent slices and with one number as the answer.
-pub mod border;
+// the caller's frame as it came. `numbers` has the two with one number as the answer, as the C border gives it.
 mod fields;
+pub mod numbers;
 pub mod reader;
 pub mod writer;

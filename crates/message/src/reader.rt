@@ -3,9 +3,10 @@ ghost use mathlib.Core.Path.{_≡_};
 ghost use Prim.Native.Nat.{_+_, _*_, _<_};
 ghost use lib.ListN.{length};
 ghost use Rattle.ground.specs.Limits.{entryLimit, unitLimit};
-ghost use Rattle.ground.specs.Rows.{tab, filled};
-ghost use Rattle.rules.specs.Message.{changeAt};
-ghost use Rattle.message.specs.Reading.{isFramed, Framed, refusedReading, readingOf};
+ghost use Rattle.ground.specs.Rows.{tab, zeros, filled};
+ghost use Rattle.ground.specs.Said.{refusedWith, said};
+ghost use Rattle.rules.specs.Message.{changeAt, messageOf, readRefusal};
+ghost use Rattle.message.specs.Reading.{readingSaid, messageValues, changesRead, isFramed, Framed};
 use crate::fields;
 use ground::CHANGE_BASE;
 use ground::ENTRIES;
@@ -28,8 +29,23 @@ pub struct Reading {
     pub changes: [u32; ENTRIES],
 }
 
+// The refusal's number of an answer, or 0: what a caller passes on where the answer is no message.
+pub fn refusal_of(answer: Answer) -> u32
+    ensures { λ r. ⌜ r ≡ readingSaid answer .number ⌝ }
+{
+    match answer {
+        Answer::Message {
+            kind: _,
+            sender: _,
+            entries: _,
+        } => 0,
+        Answer::Refused(number) => number,
+    }
+}
+
 fn refused(number: u32) -> Reading
-    ensures { λ r. ⌜ r ≡ refusedReading number ⌝ }
+    ensures answer { λ r. ⌜ readingSaid (r .answer) ≡ refusedWith number ⌝ }
+    ensures changes { λ r. ⌜ r .changes ≡ zeros entryLimit ⌝ }
 {
     Reading {
         answer: Answer::Refused(number),
@@ -87,7 +103,8 @@ fn changes_in(bytes: &[u8], entries: usize) -> [u32; ENTRIES]
 // The fields of framed bytes, if they are legal.
 fn read_framed(count: u32, bytes: &[u8]) -> Reading
     requires { ⌜ Framed count (now bytes) ⌝ }
-    ensures { λ r. ⌜ r ≡ readingOf count (now (bytes .entry)) ⌝ }
+    ensures answer { λ r. ⌜ readingSaid (r .answer) ≡ said (readRefusal count (now (bytes .entry))) (messageValues (messageOf (now (bytes .entry)))) ⌝ }
+    ensures changes { λ r. ⌜ r .changes ≡ changesRead count (now (bytes .entry)) ⌝ }
 {
     let entries = wide(bytes[3]) as usize;
     if (count as usize) <= entries {
@@ -111,7 +128,8 @@ fn read_framed(count: u32, bytes: &[u8]) -> Reading
 
 // Takes exactly one message of a network of `count` units from the bytes.
 pub fn read(count: u32, bytes: &[u8]) -> Reading
-    ensures { λ r. ⌜ r ≡ readingOf count (now (bytes .entry)) ⌝ }
+    ensures answer { λ r. ⌜ readingSaid (r .answer) ≡ said (readRefusal count (now (bytes .entry))) (messageValues (messageOf (now (bytes .entry)))) ⌝ }
+    ensures changes { λ r. ⌜ r .changes ≡ changesRead count (now (bytes .entry)) ⌝ }
 {
     if count < 2 {
         return refused(1);

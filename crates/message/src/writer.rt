@@ -5,9 +5,10 @@ ghost use Prim.Native.Nat.{_+_, _*_, _≤_};
 ghost use lib.ListN.{length, take, drop};
 ghost use Rattle.ground.specs.Limits.{messageRoom};
 ghost use Rattle.ground.specs.Rows.{filled};
+ghost use Rattle.ground.specs.Said.{said};
 ghost use Rattle.rules.specs.Message.{writeRefusal, written};
 ghost use Rattle.message.specs.Fields.{fieldsOf};
-ghost use Rattle.message.specs.Writing.{Fitting, contentsOf, writingOf, frameAfter, laidAtStart};
+ghost use Rattle.message.specs.Writing.{writingSaid, lengthValue, frameAfter, Fitting, roomRefusal, contentsOf, laidAtStart};
 use crate::fields;
 use ground::CHANGE_BASE;
 use ground::ENTRY_BASE;
@@ -20,9 +21,9 @@ pub enum Written {
     Refused(u32),
 }
 
-// The lowest refusal that applies, or 0. The room is counted in fours, so that no sum can wrap.
-fn refusal(count: u32, kind: u32, sender: u32, changes: &[u32], places: usize, offset: usize) -> u32
-    ensures { λ r. ⌜ r ≡ writeRefusal count (fieldsOf kind sender (now (changes .entry))) places offset ⌝ }
+// Refusals 1 and 7 of a message of so many entries, or 0. The room is counted in fours, so that no sum can wrap.
+pub fn room_refusal(count: u32, entries: usize, places: usize, offset: usize) -> u32
+    ensures { λ r. ⌜ r ≡ roomRefusal count entries places offset ⌝ }
 {
     if count < 2 {
         return 1;
@@ -33,8 +34,19 @@ fn refusal(count: u32, kind: u32, sender: u32, changes: &[u32], places: usize, o
     if places < offset {
         return 7;
     }
-    if (places - offset) / 4 <= changes.len() {
+    if (places - offset) / 4 <= entries {
         return 7;
+    }
+    0
+}
+
+// The lowest refusal that applies, or 0.
+fn refusal(count: u32, kind: u32, sender: u32, changes: &[u32], places: usize, offset: usize) -> u32
+    ensures { λ r. ⌜ r ≡ writeRefusal count (fieldsOf kind sender (now (changes .entry))) places offset ⌝ }
+{
+    let number = room_refusal(count, changes.len(), places, offset);
+    if number != 0 {
+        return number;
     }
     if !fields::legal_fields(count, kind, sender, changes) {
         return 9;
@@ -108,7 +120,7 @@ pub fn write(
     frame: &mut [u8],
     offset: usize,
 ) -> Written
-    ensures answer { λ r. ⌜ r ≡ writingOf count (fieldsOf kind sender (now (changes .entry))) (length (now (frame .entry))) offset ⌝ }
+    ensures answer { λ r. ⌜ writingSaid r ≡ said (writeRefusal count (fieldsOf kind sender (now (changes .entry))) (length (now (frame .entry))) offset) (lengthValue (fieldsOf kind sender (now (changes .entry)))) ⌝ }
     ensures frame { λ r. ⌜ now (frame .exit) ≡ frameAfter count (fieldsOf kind sender (now (changes .entry))) (now (frame .entry)) offset ⌝ }
 {
     let number = refusal(count, kind, sender, changes, frame.len(), offset);

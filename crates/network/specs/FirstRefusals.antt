@@ -1,4 +1,5 @@
--- The refusals of a network's call that come before its queues are looked at.
+-- Order: the refusals of a network's call that come before its queues are looked at. proofs/calls/FirstRefusals.antt
+-- shows that `networkRefusal` begins with them.
 use Prim.Native.Nat.{ℕ}
 use mathlib.Core.Bool.{Bool, not}
 use mathlib.Core.List.{List}

@@ -64,8 +64,7 @@ fn first_refusal(words: &[u32], queues: &[u8], a: u32, b: u32, legal: bool, asks
 }
 
 // The link between a and b comes up, at one cost from a to b and another from b to a: an event at each end.
-#[no_mangle]
-pub extern "C" fn network_up(
+pub fn up(
     words: &mut [u32],
     queues: &mut [u8],
     a: u32,
@@ -102,14 +101,7 @@ pub extern "C" fn network_up(
 }
 
 // The cost from a to its neighbour b changes: an event at a only.
-#[no_mangle]
-pub extern "C" fn network_cost(
-    words: &mut [u32],
-    queues: &mut [u8],
-    a: u32,
-    b: u32,
-    new_cost: u32,
-) -> u32
+pub fn cost(words: &mut [u32], queues: &mut [u8], a: u32, b: u32, new_cost: u32) -> u32
     ensures answer { λ r. ⌜ r ≡ networkAnswer (now (words .entry)) (now (queues .entry)) (cost a b «new_cost») ⌝ }
     ensures words { λ r. ⌜ now (words .exit) ≡ wordsAfter (now (words .entry)) (now (queues .entry)) (cost a b «new_cost») ⌝ }
     ensures queues { λ r. ⌜ now (queues .exit) ≡ bytesAfter (now (words .entry)) (now (queues .entry)) (cost a b «new_cost») ⌝ }
@@ -127,8 +119,7 @@ pub extern "C" fn network_cost(
 }
 
 // The link between a and b goes down: both its queues are emptied, and each end has its event.
-#[no_mangle]
-pub extern "C" fn network_down(words: &mut [u32], queues: &mut [u8], a: u32, b: u32) -> u32
+pub fn down(words: &mut [u32], queues: &mut [u8], a: u32, b: u32) -> u32
     ensures answer { λ r. ⌜ r ≡ networkAnswer (now (words .entry)) (now (queues .entry)) (down a b) ⌝ }
     ensures words { λ r. ⌜ now (words .exit) ≡ wordsAfter (now (words .entry)) (now (queues .entry)) (down a b) ⌝ }
     ensures queues { λ r. ⌜ now (queues .exit) ≡ bytesAfter (now (words .entry)) (now (queues .entry)) (down a b) ⌝ }
@@ -143,8 +134,7 @@ pub extern "C" fn network_down(words: &mut [u32], queues: &mut [u8], a: u32, b: 
 }
 
 // The first message in the queue from a to b reaches b.
-#[no_mangle]
-pub extern "C" fn network_deliver(words: &mut [u32], queues: &mut [u8], a: u32, b: u32) -> u32
+pub fn deliver(words: &mut [u32], queues: &mut [u8], a: u32, b: u32) -> u32
     ensures answer { λ r. ⌜ r ≡ networkAnswer (now (words .entry)) (now (queues .entry)) (deliver a b) ⌝ }
     ensures words { λ r. ⌜ now (words .exit) ≡ wordsAfter (now (words .entry)) (now (queues .entry)) (deliver a b) ⌝ }
     ensures queues { λ r. ⌜ now (queues .exit) ≡ bytesAfter (now (words .entry)) (now (queues .entry)) (deliver a b) ⌝ }

@@ -4,7 +4,6 @@
 // (docs/TABLES.md has both index rules). Every call first tests the whole of both (`fitness`), then its arguments. A unit's
 // event happens on a copy of its table; only when every message finds room in its queue are the copies and the messages put
 // where they belong (`events`), so a refusal leaves both tables as they came. `calls` has link up, cost, link down and
-// delivery, `questions` the fresh network and what can be asked (`asking`): these two are all that others see, in C too.
+// delivery, `fresh` the fresh network; what can be asked is in `asking`.
 pub mod calls;
-mod fresh;
-pub mod questions;
+pub mod fresh;

@@ -1,19 +1,21 @@
--- The tracer's answers: what it tells that nothing refuses a trace, the answer and the path from what the loop gave, and
--- that the number of an answer fits.
+-- The tracer's answers: what is said leaves one answer, what it tells that nothing refuses a trace, the answer and the path
+-- from what the loop gave, and that the number of an answer fits.
 use Prim.Native.Nat.{ℕ, zero, suc, _+_, _-_, _≤_, _<_}
 use native.Mathlib.Omega.{arith}
 use mathlib.Core.Bool.{Bool, true, false, not, _||_}
-use mathlib.Core.List.{List}
+use mathlib.Core.List.{List, [], _∷_}
 use mathlib.Core.Logic.{_≢_}
-use mathlib.Core.Path.{_≡_, sym, ap, _∙_}
+use mathlib.Core.Path.{_≡_, refl, sym, ap, _∙_}
 use borrow.Author.Tests.{eq-eqb, ne-eqb, eqb-true, lt-ltb, le-ltb, ltb-true, ltb-false, not-false}
 use lib.Dec.{eqb, ltb}
 use lib.ListN.{length, drop}
 use Rattle.ground.specs.Choice.{if_then_else_}
 use Rattle.ground.specs.Refusal.{accepted, _gives_, _otherwise_, answerBase}
 use Rattle.ground.specs.Rows.{at}
+use Rattle.ground.specs.Said.{Said, acceptedWith, refusedWith, said}
 use Rattle.ground.proofs.Choices.{by-choice}
 use Rattle.ground.proofs.Refusal.{gives-none, otherwise-none}
+use Rattle.ground.proofs.Said.{said-accepted, said-refused}
 use Rattle.ground.proofs.Tests.{either-left, either-right, neither, neither-of, if-true, if-false}
 use Rattle.rules.specs.Network.{Network, unitAt}
 use Rattle.rules.specs.NetworkTable.{traceTableRefusal, pathAfter}
@@ -22,9 +24,39 @@ use Rattle.rules.specs.Tracer.{Trace, Ending, arrived, stranded, circling, ends
 use Rattle.rules.specs.Tracer.{hops}
 use Rattle.rules.specs.Unit.{successors}
 use Rattle.paths.specs.declared.tracer.Traced.{Traced}
-use Rattle.paths.specs.declared.tracer.Traced.the-variants.{Refused}
-use Rattle.paths.specs.Tracing.{endedAs, tracedAs, traceAnswer, traceNumber, highestAnswer, Traceable, EndsAs, LaysPath}
+use Rattle.paths.specs.declared.tracer.Traced.the-variants.{Arrived, Stranded, Circling, Refused}
+use Rattle.paths.specs.Tracing.{endingValues, tracingSaid, valuesOf, traceValues, Traceable, EndsAs, LaysPath}
+use Rattle.paths.specs.Tracing.{endedAs, tracedAs, traceAnswer, traceNumber, highestAnswer}
 use Rattle.paths.proofs.Turns.{fit-sized}
+
+-- Two answers that say the same are the same: the answer can be found again from its number and values.
+by-values : (number : ℕ) (values : List ℕ) → Traced
+by-values number [] = Refused number
+by-values number (which ∷ []) = Refused number
+by-values number (which ∷ hops ∷ rest) =
+    if eqb which 1 then Arrived hops else if eqb which 2 then Stranded hops else Circling hops
+
+found-again : (answer : Traced) → by-values (tracingSaid answer .number) (tracingSaid answer .values) ≡ answer
+unfolding by-values
+found-again (Arrived hops) = refl
+found-again (Stranded hops) = refl
+found-again (Circling hops) = refl
+found-again (Refused number) = refl
+
+pub one-tracing : (a b : Traced) → tracingSaid a ≡ tracingSaid b → a ≡ b
+one-tracing a b e =
+    sym (found-again a) ∙ ap (λ (s : Said). by-values (s .number) (s .values)) e ∙ found-again b
+
+-- The answer of a trace says its ending and hops.
+said-ended : (ending : Ending) (hops : ℕ) → acceptedWith (endingValues ending hops) ≡ tracingSaid (endedAs ending hops)
+said-ended arrived hops = refl
+said-ended stranded hops = refl
+said-ended circling hops = refl
+
+said-traced : (test : Bool) (refusal : ℕ) (t : Trace)
+    → (if test then acceptedWith (valuesOf t) else refusedWith refusal) ≡ tracingSaid (if test then tracedAs t else Refused refusal)
+said-traced true refusal t = said-ended (t .ending) (hops t)
+said-traced false refusal t = refl
 
 -- The path is short at a unit where the trace ends, or else where the rest of it is.
 here-short : (a b : Bool) (i m : ℕ) (rest : Trace) → 1 ≤ m → length (rest .path) ≤ m
@@ -127,25 +159,33 @@ module _ (words bytes : List ℕ) (start destination : ℕ) (choices path : List
         }
 
     -- Its answer and path are the trace's.
-    pub as-traced : number ≡ accepted → {answer : Traced} {after : List ℕ} → EndsAs words start destination choices answer
+    pub as-traced : number ≡ accepted → (answer : Traced) {after : List ℕ} → EndsAs words start destination choices answer
         → LaysPath words start destination choices path after
-        → (answer ≡ traceAnswer words bytes start destination choices path)
+        → (tracingSaid answer ≡ said refusal (traceValues words bytes start destination choices))
         × (after ≡ pathAfter words bytes start destination choices path)
-    unfolding traceAnswer pathAfter
-    as-traced z h k =
+    unfolding pathAfter
+    as-traced z answer h k =
         let e : refusal ≡ accepted = sym told ∙ z in (
-          h bytes (fit-accepted e) ∙ sym (if-true _ _ _ (eq-eqb refusal accepted e)),
+          h bytes (fit-accepted e) ∙ sym (said-accepted refusal _ e),
           k bytes (fit-accepted e) ∙ sym (if-true _ _ _ (eq-eqb refusal accepted e)),
         )
 
     -- Of a trace that is refused they are the refusal, and the path as it was.
     pub as-refused : number ≢ accepted
-        → (Refused number ≡ traceAnswer words bytes start destination choices path)
+        → (tracingSaid (Refused number) ≡ said refusal (traceValues words bytes start destination choices))
         × (path ≡ pathAfter words bytes start destination choices path)
-    unfolding traceAnswer pathAfter
+    unfolding pathAfter
     as-refused d =
-        let none : eqb refusal accepted ≡ false = ne-eqb refusal accepted (λ e. d (told ∙ e)) in
-        (ap Refused told ∙ sym (if-false _ _ _ none), sym (if-false _ _ _ none))
+        let some : refusal ≢ accepted = λ e. d (told ∙ e) in
+        (ap refusedWith told ∙ sym (said-refused refusal _ some), sym (if-false _ _ _ (ne-eqb refusal accepted some)))
+
+  -- The answer itself, from what it says.
+  pub traces-as : (answer : Traced) → tracingSaid answer ≡ said refusal (traceValues words bytes start destination choices)
+      → answer ≡ traceAnswer words bytes start destination choices path
+  unfolding said traceValues traceAnswer
+  traces-as answer e =
+      one-tracing answer _
+      (e ∙ said-traced (eqb refusal accepted) refusal (trace (networkFrom words bytes) start destination choices))
 
   -- The number of the answer fits.
   pub number-low : {answer : Traced} → answer ≡ traceAnswer words bytes start destination choices path

@@ -13,6 +13,7 @@ use lib.ListN.{length, set, take, drop, length-set, length-append}
 use lib.Seq.{getD-take, getD-drop, drop-drop, set-split, take-suc-set, drop-set-lt, length-take-le, append-snoc}
 use Rattle.ground.specs.Limits.{unitLimit}
 use Rattle.ground.specs.Rows.{at, isIn}
+use Rattle.ground.specs.Said.{acceptedWith}
 use Rattle.ground.proofs.Lists.{parts, at-from}
 use Rattle.rules.specs.Network.{Network, unitAt}
 use Rattle.rules.specs.Tables.{unitWords, networkWords, successorsAt, part, networkFrom, fitTables}
@@ -22,7 +23,7 @@ use Rattle.rules.specs.Unit.{isSuccessor, successors, successorSet}
 use Rattle.rules.proofs.Fit.{fit-tables-of, fit-network-shaped}
 use Rattle.rules.proofs.LaidNetwork.{ShapedNetwork, unit-part, network-lays-back}
 use Rattle.state.proofs.QuestionAnswers.{set-at-place}
-use Rattle.paths.specs.Tracing.{unitsIn, endedAs, tracedAs, Traceable, EndsAs, LaysPath}
+use Rattle.paths.specs.Tracing.{unitsIn, endingValues, valuesOf, traceValues, Traceable, LaysPath}
 use Rattle.paths.proofs.Sets.{units-of-bits, none-alike, rising-under}
 
 -- What the numbers of fit tables have: their length, and a count from 2 to the limit.
@@ -187,7 +188,8 @@ module _ {words : List ℕ} {start destination : ℕ} {choices buffer path : Lis
   -- The answer and the path of a trace that ends at this unit.
   abbrev Ends : Ending → Type 0
   Ends ending =
-      EndsAs words start destination choices (endedAs ending hops)
+      ((bytes : List ℕ) → fitTables words bytes ≡ true
+      → acceptedWith (endingValues ending hops) ≡ acceptedWith (traceValues words bytes start destination choices))
       × LaysPath words start destination choices buffer (set path hops byte)
 
   -- They are right where what is left of the trace is this unit alone.
@@ -196,8 +198,12 @@ module _ {words : List ℕ} {start destination : ℕ} {choices buffer path : Lis
       → traceFrom (networkFrom words bytes) destination (at words 0 - (hops + 1)) i (drop hops choices)
       ≡ endsHere ending i)
       → Ends ending
+  unfolding traceValues
   ends ending here = (
-    λ bytes fit. sym (ap tracedAs (whole bytes fit) ∙ ap (endedAs ending) (omega (arith, met-length))),
+    λ bytes fit.
+        sym
+        (ap (λ (t : Trace). acceptedWith (valuesOf t)) (whole bytes fit)
+        ∙ ap (λ (k : ℕ). acceptedWith (endingValues ending k)) (omega (arith, met-length))),
     λ bytes fit. laid ∙ ap (λ (t : Trace). pathLaid t buffer) (sym (whole bytes fit)),
   )
     where

@@ -5,9 +5,10 @@ ghost use Prim.Native.Nat.{_≤_, _<_};
 ghost use lib.ListN.{length};
 ghost use Rattle.ground.specs.Limits.{unitLimit};
 ghost use Rattle.ground.specs.Rows.{at};
+ghost use Rattle.ground.specs.Said.{said};
 ghost use Rattle.rules.specs.NetworkTable.{traceTableRefusal, pathAfter};
 ghost use Rattle.rules.specs.Tracer.{chosen as chosenFrom};
-ghost use Rattle.paths.specs.Tracing.{unitsIn, Traceable, EndsAs, LaysPath, traceAnswer, traceNumber, highestAnswer};
+ghost use Rattle.paths.specs.Tracing.{unitsIn, tracingSaid, traceValues, Traceable, EndsAs, LaysPath, traceAnswer, traceNumber, highestAnswer};
 use fitness::fit;
 use ground::ANSWERED;
 use ground::UNIT_WORDS;
@@ -139,7 +140,7 @@ pub fn trace(
     choices: &[u8],
     path: &mut [u8],
 ) -> Traced
-    ensures answer { λ r. ⌜ r ≡ traceAnswer (now (words .entry)) (now (queues .entry)) start destination (now (choices .entry)) (now (path .entry)) ⌝ }
+    ensures answer { λ r. ⌜ tracingSaid r ≡ said (traceTableRefusal (now (words .entry)) (now (queues .entry)) start destination (now (choices .entry)) (now (path .entry))) (traceValues (now (words .entry)) (now (queues .entry)) start destination (now (choices .entry))) ⌝ }
     ensures path { λ r. ⌜ now (path .exit) ≡ pathAfter (now (words .entry)) (now (queues .entry)) start destination (now (choices .entry)) (now (path .entry)) ⌝ }
 {
     let number = trace_refusal(words, queues, start, destination, choices, path);
@@ -167,9 +168,8 @@ fn number_of(answer: Traced) -> u32
     }
 }
 
-// The same with one number as the answer, for C.
-#[no_mangle]
-pub extern "C" fn network_trace(
+// The same with one number as the answer.
+pub fn trace_number(
     words: &[u32],
     queues: &[u8],
     start: u32,

@@ -1,5 +1,6 @@
--- The messages of an event in the buffer where `unit` laid them, one parcel for each neighbour that is sent one: the
--- neighbour's number, then the message. They are taken from the buffer neighbour by neighbour, rising.
+-- Order: the messages of an event in the buffer where `unit` laid them, one parcel for each neighbour that is sent one: the
+-- neighbour's number, then the message. They are taken from the buffer neighbour by neighbour, rising. proofs/SentParcels.antt
+-- shows that they are the messages of `outgoing`.
 use Prim.Native.Nat.{ℕ, zero, suc, _+_, _-_}
 use mathlib.Core.Bool.{Bool, not, _&&_}
 use mathlib.Core.List.{List}

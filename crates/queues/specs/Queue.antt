@@ -1,5 +1,6 @@
--- The bytes of one queue among those of all: taken out, put back, the messages counted, the first taken off, one put at the
--- end.
+-- Order: the bytes of one queue among those of all: taken out, put back, the messages counted, the first taken off, one put at
+-- the end. proofs/QueueThere.antt finds them among all, and proofs/QueueMessages.antt shows that they are those of
+-- `laidQueue`.
 use Prim.Native.Nat.{ℕ, _*_}
 use mathlib.Core.Bool.{Bool, _&&_}
 use mathlib.Core.List.{List}

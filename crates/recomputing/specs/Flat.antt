@@ -1,4 +1,5 @@
--- Copies in one flat row: unitLimit numbers for each unit, of which the first n count.
+-- Order: copies in one flat row, unitLimit numbers for each unit, of which the first n count. proofs/CopiedRows.antt shows that
+-- it reads like the rules' copies.
 use Prim.Native.Nat.{ℕ, _*_}
 use mathlib.Core.Bool.{Bool, _&&_}
 use mathlib.Core.List.{List, []}

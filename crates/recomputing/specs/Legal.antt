@@ -1,5 +1,5 @@
--- The links that the recomputation takes from any numbers: of those that the rules take, such as have a link's cost. From the
--- tables of a fit unit all have.
+-- Order: the links that the recomputation takes from any numbers: of those that the rules take, such as have a link's cost.
+-- From the tables of a fit unit all have: `recomputed-from` of proofs/Recomputing.antt.
 use Prim.Native.Nat.{ℕ, _≤_, _<_}
 use mathlib.Core.Bool.{true, _&&_}
 use mathlib.Core.List.{List, []}

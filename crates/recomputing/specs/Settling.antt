@@ -1,4 +1,5 @@
--- The steps of the quick engine: where it starts, which unit it settles next, and what that unit's offers come to.
+-- Order: the steps of the quick engine: where it starts, which unit it settles next, and what that unit's offers come to.
+-- proofs/Settled.antt shows that it ends with the three facts of shortest distances.
 use Prim.Native.Nat.{ℕ, min, _≤_, _<_}
 use mathlib.Core.Bool.{Bool, true, false}
 use mathlib.Core.List.{List}

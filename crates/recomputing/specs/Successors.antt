@@ -1,5 +1,5 @@
--- Successor sets, from the distances through neighbours and the feasible distances. A unit whose link is down has a row of
--- unreachable, so it is no successor.
+-- Order: successor sets, from the distances through neighbours and the feasible distances. A unit whose link is down has a row
+-- of unreachable, so it is no successor. crates/state/proofs/Successors.antt shows that they are `successorSet`.
 use Prim.Native.Nat.{ℕ}
 use mathlib.Core.List.{List, []}
 use lib.Dec.{ltb}

@@ -18,13 +18,13 @@ use Rattle.ground.proofs.Rows.{some-ext}
 use Rattle.ground.proofs.Stored.{set-filled}
 use Rattle.ground.proofs.Tests.{equal-or-not}
 use Rattle.rules.specs.Event.{Event, received, linkUp, newCost, linkDown, noted, withLinks, changesNothing}
-use Rattle.rules.specs.Message.{unitOf, bodyOf, entryOf, applied, holdsAcknowledgment, holdsUpdate}
+use Rattle.rules.specs.Message.{changedUnit, bodyOf, entryOf, applied, holdsAcknowledgment, holdsUpdate}
 use Rattle.rules.specs.Unit.{Unit}
 use Rattle.rules.proofs.Laid.{ShapedUnit}
 
 -- A copy with one change made.
 abbrev pub withChange : (copy : List ℕ) (c : ℕ) → List ℕ
-withChange copy c = set copy (unitOf c) (entryOf (bodyOf c))
+withChange copy c = set copy (changedUnit c) (entryOf (bodyOf c))
 
 -- One change more is made last.
 pub applied-more : (copy changes : List ℕ) (c : ℕ) → applied copy (changes ++ (c ∷ [])) ≡ withChange (applied copy changes) c
@@ -43,15 +43,15 @@ pub length-applied : (copy changes : List ℕ) → length (applied copy changes)
 unfolding applied
 length-applied copy [] = refl
 length-applied copy (c ∷ rest) =
-    length-applied (withChange copy c) rest ∙ length-set copy (unitOf c) (entryOf (bodyOf c))
+    length-applied (withChange copy c) rest ∙ length-set copy (changedUnit c) (entryOf (bodyOf c))
 
 -- Making changes of units that have a place and filling the copy up, in either order.
-pub applied-filled : (m : ℕ) (copy changes : List ℕ) → ((i : ℕ) → i < length changes → unitOf (at changes i) < length copy)
+pub applied-filled : (m : ℕ) (copy changes : List ℕ) → ((i : ℕ) → i < length changes → changedUnit (at changes i) < length copy)
     → applied (filled m copy) changes ≡ filled m (applied copy changes)
 unfolding applied
 applied-filled m copy [] h = refl
 applied-filled m copy (c ∷ rest) h =
-    ap (λ (row : List ℕ). applied row rest) (set-filled m copy (unitOf c) (entryOf (bodyOf c)) (h zero (omega arith)))
+    ap (λ (row : List ℕ). applied row rest) (set-filled m copy (changedUnit c) (entryOf (bodyOf c)) (h zero (omega arith)))
     ∙ applied-filled m (withChange copy c) rest (λ i l. rw length-set (h (suc i) (suc-le-suc l)))
 
 -- Whether some change changes nothing is the same in a copy that is filled up.
@@ -59,10 +59,10 @@ pub changes-nothing-filled : (m : ℕ) (copy changes : List ℕ) → changesNoth
 unfolding changesNothing
 changes-nothing-filled m copy changes =
     some-ext (length changes) (λ i. here (filled m copy) i) (λ i. here copy i)
-    (λ i l. ap (λ (entry : ℕ). eqb entry (entryOf (bodyOf (at changes i)))) (at-filled m copy (unitOf (at changes i))))
+    (λ i l. ap (λ (entry : ℕ). eqb entry (entryOf (bodyOf (at changes i)))) (at-filled m copy (changedUnit (at changes i))))
   where
     here : (row : List ℕ) (i : ℕ) → Bool
-    here row i = eqb (at row (unitOf (at changes i))) (entryOf (bodyOf (at changes i)))
+    here row i = eqb (at row (changedUnit (at changes i))) (entryOf (bodyOf (at changes i)))
 
 module _ (u : Unit) (s : ShapedUnit u) where
   -- Each copy keeps its length where one is replaced by a row of the count's length.

@@ -87,8 +87,10 @@ pub table : List Figure
 table =
     -- P1: counts 1 and 17 refused 1; 2 and 16 accepted
     (map freshRefusal (1 ∷ 17 ∷ 2 ∷ 16 ∷ []) is (1 ∷ 1 ∷ 0 ∷ 0 ∷ []))
-    -- P2: costs 0 and 65,536 refused 4; 1 and 65,535 accepted
+    -- P2: costs 0 and 65,536 refused 4; 1 and 65,535 accepted: at either end of a link that comes up, and of a changed cost
     ∷ (map (λ c. callRefusal (fresh 2) (up 0 1 c 1)) (0 ∷ 65536 ∷ 1 ∷ 65535 ∷ []) is (4 ∷ 4 ∷ 0 ∷ 0 ∷ []))
+    ∷ (map (λ c. callRefusal (fresh 2) (up 0 1 1 c)) (0 ∷ 65536 ∷ 1 ∷ 65535 ∷ []) is (4 ∷ 4 ∷ 0 ∷ 0 ∷ []))
+    ∷ (map (λ c. callRefusal (two []) (cost 0 1 c)) (0 ∷ 65536 ∷ 1 ∷ 65535 ∷ []) is (4 ∷ 4 ∷ 0 ∷ 0 ∷ []))
     -- P3: both ACTIVE; distance, feasible distance, successor
     ∷ (shows (two []) 0 1 is (ACTIVE ∷ 5 ∷ 5 ∷ 1 ∷ []))
     ∷ (shows (two []) 1 0 is (ACTIVE ∷ 7 ∷ 7 ∷ 0 ∷ []))
@@ -109,9 +111,10 @@ table =
     -- P9: the hops, then the path
     ∷ (arrival (trace (triangle []) 0 2 (0 ∷ 0 ∷ [])) is (2 ∷ 0 ∷ 1 ∷ 2 ∷ []))
     ∷ (arrival (trace (triangle []) 0 2 (1 ∷ 1 ∷ [])) is (1 ∷ 0 ∷ 2 ∷ []))
-    -- P10: unit 1 to 2, and what it sent unit 0: "set 2: 1, 10"
+    -- P10: unit 1 to 2, and what it sent units 0 and 2: "set 2: 1, 10"
     ∷ (shows (triangle dearer) 1 2 is (ACTIVE ∷ 10 ∷ 1 ∷ 2 ∷ []))
     ∷ (bytesAt (triangle dearer) 1 0 0 is (1 ∷ 1 ∷ 2 ∷ 1 ∷ 2 ∷ 1 ∷ 0 ∷ 10 ∷ []))
+    ∷ (bytesAt (triangle dearer) 1 2 0 is (1 ∷ 1 ∷ 2 ∷ 1 ∷ 2 ∷ 1 ∷ 0 ∷ 10 ∷ []))
     -- P11: unit 0 to 2
     ∷ (shows (triangle told) 0 2 is (ACTIVE ∷ 5 ∷ 2 ∷ 2 ∷ []))
     -- P12: unit 1 to 2, ACTIVE again

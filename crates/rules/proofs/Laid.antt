@@ -16,7 +16,7 @@ use Rattle.ground.proofs.Lists.{Wide, map-length, map-first}
 use Rattle.ground.proofs.Rows.{length-tab, tab-at, tab-ext, tab-row, same-eq}
 use Rattle.rules.specs.Message.{Message, written, messageOf}
 use Rattle.rules.specs.Tables.{queueBytes, laidQueue, queueFrom}
-use Rattle.rules.specs.Tables.{rowAt, copyAt, unitWords, part, laidRow, laidUnit, unitFrom, fitUnitTable}
+use Rattle.rules.specs.Tables.{rowStart, copyAt, unitWords, part, laidRow, laidUnit, unitFrom, fitUnitTable}
 use Rattle.rules.specs.Unit.{Unit, successorSet}
 use Rattle.rules.proofs.LegalMessages.{Legal}
 use Rattle.rules.proofs.Written.{written-length, written-bytes, reads-back-from}
@@ -75,7 +75,7 @@ row-back u s rest r h =
 
 -- So row r of the table is.
 unit-row : (u : Unit) → ShapedUnit u → (r : ℕ) → r < 5 + u .count
-    → part (laidUnit u) (rowAt r) (u .count) ≡ getD (rows u) r []
+    → part (laidUnit u) (rowStart r) (u .count) ≡ getD (rows u) r []
 unit-row u s r l = rw (laid-rows u, ← drop-drop) (row-back u s _ r (omega (arith, length-rows u s)))
 
 -- Copy k is row 5 + k.
@@ -114,10 +114,10 @@ unfolding unitFrom
 unit-shaped words h e =
     record {
       limit = h;
-      costs = part-length words (rowAt 0) (at words 0) (omega arith);
-      awaited = part-length words (rowAt 1) (at words 0) (omega arith);
-      tree = part-length words (rowAt 2) (at words 0) (omega arith);
-      feasible = part-length words (rowAt 3) (at words 0) (omega arith);
+      costs = part-length words (rowStart 0) (at words 0) (omega arith);
+      awaited = part-length words (rowStart 1) (at words 0) (omega arith);
+      tree = part-length words (rowStart 2) (at words 0) (omega arith);
+      feasible = part-length words (rowStart 3) (at words 0) (omega arith);
       copies = length-tab (at words 0) (λ k. part words (copyAt k) (at words 0));
       copy =
           λ k l.

@@ -18,7 +18,7 @@ use Rattle.tree.specs.Tree.{nothing, isTree}
 use Rattle.ground.proofs.Joined.{joined-skip}
 use Rattle.ground.proofs.Rows.{below-suc}
 use Rattle.ground.proofs.Tests.{if-true, equal-or-not}
-use Rattle.rules.specs.Message.{acknowledgment, update, change, unitOf, bodyOf, bodyFor, removed, differences, legalChanges, legalMessage}
+use Rattle.rules.specs.Message.{acknowledgment, update, change, changedUnit, bodyOf, bodyFor, removed, differences, legalChanges, legalMessage}
 use Rattle.rules.proofs.Differences.{changeOf, differences-joined, one-change}
 use Rattle.rules.proofs.TreeEntries.{TreeEntry, tree-entry, tree-root, tree-short}
 use Rattle.rules.proofs.LegalMessages.{LegalSetting, LegalChange, of-changes, of-legal}
@@ -26,20 +26,20 @@ use Rattle.rules.proofs.LegalMessages.{LegalSetting, LegalChange, of-ch
 -- Legal changes of units below j.
 record Told (n sender : ℕ) (changes : List ℕ) (j : ℕ) : Type 0 where
   each : (i : ℕ) → i < length changes → LegalChange n sender changes i
-  below : (i : ℕ) → i < length changes → unitOf (at changes i) < j
+  below : (i : ℕ) → i < length changes → changedUnit (at changes i) < j
 
 -- With a legal change of unit j they are legal changes of units up to j.
-told-more : (n sender : ℕ) (changes : List ℕ) (c : ℕ) → Told n sender changes (unitOf c) → unitOf c < n → unitOf c ≢ sender
-    → (bodyOf c ≡ removed) ⊎ LegalSetting n (unitOf c) (bodyOf c)
-    → Told n sender (changes ++ (c ∷ [])) (suc (unitOf c))
+told-more : (n sender : ℕ) (changes : List ℕ) (c : ℕ) → Told n sender changes (changedUnit c) → changedUnit c < n → changedUnit c ≢ sender
+    → (bodyOf c ≡ removed) ⊎ LegalSetting n (changedUnit c) (bodyOf c)
+    → Told n sender (changes ++ (c ∷ [])) (suc (changedUnit c))
 told-more n sender changes c told unit other body =
     record {
       each = λ i l. ⊎-elim (last i) (λ k. earlier i k (told .each i k)) (split i l);
       below =
           λ i l.
           ⊎-elim
-          (λ q. omega (arith, ap unitOf (at-last i q)))
-          (λ k. omega (arith, ap unitOf (at-earlier i k), told .below i k))
+          (λ q. omega (arith, ap changedUnit (at-last i q)))
+          (λ k. omega (arith, ap changedUnit (at-earlier i k), told .below i k))
           (split i l);
     }
   where
@@ -118,7 +118,7 @@ module _ (n me : ℕ) (old new : List ℕ) (few : n ≤ unitLimit) (own : me < n
           by true e = rw append-nil (record { each = told .each; below = λ i l. omega (arith, told .below i l) })
           by false e =
               let short : bodyFor (at new j) < changeBase = body .0 in
-              let unit : unitOf (change j (bodyFor (at new j))) ≡ j = omega arith in
+              let unit : changedUnit (change j (bodyFor (at new j))) ≡ j = omega arith in
               let rest : bodyOf (change j (bodyFor (at new j))) ≡ bodyFor (at new j) = omega arith in
               let away : j ≢ me = λ q. eqb-false (at old j) (at new j) e (rw q own-same) in
               rw unit at

@@ -14,7 +14,7 @@ use Rattle.ground.proofs.Rows.{every-at, every-of}
 use Rattle.ground.proofs.Tests.{both-of, either, either-left, either-right, not-of-false}
 use Rattle.ground.proofs.Lists.{parts}
 use Rattle.tree.specs.Tree.{headOf, costOf}
-use Rattle.rules.specs.Message.{Message, unitOf, bodyOf, removed, update, holdsUpdate, legalUnit}
+use Rattle.rules.specs.Message.{Message, changedUnit, bodyOf, removed, update, holdsUpdate, legalUnit}
 use Rattle.rules.specs.Message.{legalBody, legalChanges, legalMessage}
 
 -- A body that sets an entry: the head is below the count and another than the unit, the cost is at least 1.
@@ -25,10 +25,10 @@ pub record LegalSetting (n unit body : ℕ) : Type 0 where
 
 -- The change at place i: its unit is below the count, not the sender and above the one before; its body is legal.
 pub record LegalChange (n sender : ℕ) (changes : List ℕ) (i : ℕ) : Type 0 where
-  pub unit : unitOf (at changes i) < n
-  pub other : unitOf (at changes i) ≢ sender
-  pub rising : (i ≡ 0) ⊎ (unitOf (at changes (i - 1)) < unitOf (at changes i))
-  pub body : (bodyOf (at changes i) ≡ removed) ⊎ LegalSetting n (unitOf (at changes i)) (bodyOf (at changes i))
+  pub unit : changedUnit (at changes i) < n
+  pub other : changedUnit (at changes i) ≢ sender
+  pub rising : (i ≡ 0) ⊎ (changedUnit (at changes (i - 1)) < changedUnit (at changes i))
+  pub body : (bodyOf (at changes i) ≡ removed) ⊎ LegalSetting n (changedUnit (at changes i)) (bodyOf (at changes i))
 
 -- What a legal message of a network of n units is.
 pub record Legal (n : ℕ) (m : Message) : Type 0 where
@@ -64,34 +64,34 @@ of-body n unit body (inr s) =
 -- The test of one change.
 abbrev legalAt : (n sender : ℕ) (changes : List ℕ) (i : ℕ) → Bool
 legalAt n sender changes i =
-    legalUnit n sender changes i && legalBody n (unitOf (at changes i)) (bodyOf (at changes i))
+    legalUnit n sender changes i && legalBody n (changedUnit (at changes i)) (bodyOf (at changes i))
 
 -- A change that passes the test is legal.
 change-of : (n sender : ℕ) (changes : List ℕ) (i : ℕ) → legalAt n sender changes i ≡ true → LegalChange n sender changes i
 unfolding legalUnit
 change-of n sender changes i e =
     record {
-      unit = ltb-true (unitOf (at changes i)) n (search parts);
-      other = eqb-false (unitOf (at changes i)) sender (not-true (eqb (unitOf (at changes i)) sender) (search parts));
+      unit = ltb-true (changedUnit (at changes i)) n (search parts);
+      other = eqb-false (changedUnit (at changes i)) sender (not-true (eqb (changedUnit (at changes i)) sender) (search parts));
       rising =
           ⊎-elim
           (λ z. inl (eqb-true i 0 z))
-          (λ l. inr (ltb-true (unitOf (at changes (i - 1))) (unitOf (at changes i)) l))
+          (λ l. inr (ltb-true (changedUnit (at changes (i - 1))) (changedUnit (at changes i)) l))
           (either (eqb i 0) _ (search parts));
-      body = body-of n (unitOf (at changes i)) (bodyOf (at changes i)) (search parts);
+      body = body-of n (changedUnit (at changes i)) (bodyOf (at changes i)) (search parts);
     }
 
 -- A legal change passes the test.
 of-change : (n sender : ℕ) (changes : List ℕ) (i : ℕ) → LegalChange n sender changes i → legalAt n sender changes i ≡ true
 unfolding legalUnit
 of-change n sender changes i c =
-    let before : eqb i 0 || ltb (unitOf (at changes (i - 1))) (unitOf (at changes i)) ≡ true =
+    let before : eqb i 0 || ltb (changedUnit (at changes (i - 1))) (changedUnit (at changes i)) ≡ true =
     ⊎-elim
     (λ z. either-left (eqb i 0) _ (eq-eqb i 0 z))
     (λ l. either-right (eqb i 0) _ (lt-ltb _ _ l))
     (c .rising) in
-    let body : legalBody n (unitOf (at changes i)) (bodyOf (at changes i)) ≡ true =
-    of-body n (unitOf (at changes i)) (bodyOf (at changes i)) (c .body) in
+    let body : legalBody n (changedUnit (at changes i)) (bodyOf (at changes i)) ≡ true =
+    of-body n (changedUnit (at changes i)) (bodyOf (at changes i)) (c .body) in
     search (both-of, lt-ltb, not-of-false, ne-eqb, c .unit, c .other) depth 7
 
 -- Of changes that pass the test each is legal.
@@ -140,7 +140,7 @@ of-legal n m legal =
 
 -- The units of a legal message's changes rise strictly.
 pub units-rise : (n : ℕ) (m : Message) → Legal n m → (i : ℕ) → suc i < length (m .changes)
-    → unitOf (at (m .changes) i) < unitOf (at (m .changes) (suc i))
+    → changedUnit (at (m .changes) i) < changedUnit (at (m .changes) (suc i))
 units-rise n m legal i l =
     ⊎-elim
     (λ z. absurd (omega arith))

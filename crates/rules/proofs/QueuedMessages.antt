@@ -8,7 +8,8 @@ use lib.ListN.{length, drop}
 use lib.Seq.{getD-drop}
 use borrow.Author.Tests.{eqb-true}
 use Rattle.ground.specs.Limits.{queueRoom}
-use Rattle.ground.proofs.Each.{Each, each-at, each-of}
+use Rattle.ground.specs.Each.{Each}
+use Rattle.ground.proofs.Each.{each-at, each-of}
 use Rattle.ground.proofs.Lists.{parts}
 use Rattle.ground.proofs.Rows.{every-at}
 use Rattle.rules.specs.Message.{Message, legalMessage}

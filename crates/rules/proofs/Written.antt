@@ -16,7 +16,7 @@ use Rattle.ground.proofs.Rows.{length-tab, tab-ext, tab-row}
 use Rattle.ground.proofs.Tests.{both-of, less-or-not}
 use Rattle.ground.proofs.Lists.{parts, map-tab, map-at, Wide, map-length, map-first, joined-parts, tab-take, tab-part}
 use Rattle.ground.proofs.Lists.{at-from, Under, under-append}
-use Rattle.rules.specs.Message.{Message, edition, change, unitOf, legalMessage}
+use Rattle.rules.specs.Message.{Message, edition, change, changedUnit, legalMessage}
 use Rattle.rules.specs.Message.{bodyBytes, written, writtenLength, changeAt, messageOf, readable}
 use Rattle.rules.proofs.LegalMessages.{Legal}
 
@@ -45,16 +45,16 @@ unfolding written
 written-length m =
     omega (
       arith,
-      length-append (map unitOf (m .changes)) (bodyBytes (m .changes)),
-      length-map (m .changes) unitOf,
+      length-append (map changedUnit (m .changes)) (bodyBytes (m .changes)),
+      length-map (m .changes) changedUnit,
       length-bodies (m .changes),
     )
 
 -- After the first four bytes there are the units, and then the bodies.
 after-head : (m : Message) (rest : List ℕ)
-    → drop 4 (written m ++ rest) ≡ map unitOf (m .changes) ++ (bodyBytes (m .changes) ++ rest)
+    → drop 4 (written m ++ rest) ≡ map changedUnit (m .changes) ++ (bodyBytes (m .changes) ++ rest)
 unfolding written
-after-head m rest = append-assoc (map unitOf (m .changes)) (bodyBytes (m .changes)) rest
+after-head m rest = append-assoc (map changedUnit (m .changes)) (bodyBytes (m .changes)) rest
 
 -- After the units there are the bodies.
 after-units : (m : Message) (rest : List ℕ)
@@ -62,7 +62,7 @@ after-units : (m : Message) (rest : List ℕ)
 after-units m rest =
     sym (drop-drop (length (m .changes)) 4 (written m ++ rest))
     ∙ rw after-head
-    (drop-at (map unitOf (m .changes)) (bodyBytes (m .changes) ++ rest) (length (m .changes)) (length-map (m .changes) unitOf))
+    (drop-at (map changedUnit (m .changes)) (bodyBytes (m .changes) ++ rest) (length (m .changes)) (length-map (m .changes) changedUnit))
 
 -- From the body of change i on there are its three bytes, and then more.
 from-body : (m : Message) (rest : List ℕ) (i : ℕ) → i < length (m .changes)
@@ -73,12 +73,12 @@ from-body m rest i l =
 
 -- The unit of change i is read back.
 unit-back : (m : Message) (rest : List ℕ) (i : ℕ) → i < length (m .changes)
-    → at (written m ++ rest) (4 + i) ≡ unitOf (at (m .changes) i)
+    → at (written m ++ rest) (4 + i) ≡ changedUnit (at (m .changes) i)
 unit-back m rest i l =
-    let h : i < length (map unitOf (m .changes)) = rw (length-map (m .changes) unitOf) l in
+    let h : i < length (map changedUnit (m .changes)) = rw (length-map (m .changes) changedUnit) l in
     at-from 4 (written m ++ rest) _ (after-head m rest) i (4 + i) refl
-    ∙ List·getD-append (map unitOf (m .changes)) (bodyBytes (m .changes) ++ rest) 0 i h
-    ∙ map-at unitOf (m .changes) i 0 0 l
+    ∙ List·getD-append (map changedUnit (m .changes)) (bodyBytes (m .changes) ++ rest) 0 i h
+    ∙ map-at changedUnit (m .changes) i 0 0 l
 
 -- Change i is read back.
 change-back : (m : Message) (rest : List ℕ) (i : ℕ) → i < length (m .changes)
@@ -87,7 +87,7 @@ unfolding changeAt body
 change-back m rest i l =
     let bytes = written m ++ rest in
     let e = length (m .changes) in
-    let unit : at bytes (4 + i) ≡ unitOf (at (m .changes) i) = unit-back m rest i l in
+    let unit : at bytes (4 + i) ≡ changedUnit (at (m .changes) i) = unit-back m rest i l in
     let read = at-from (4 + e + 3 * i) bytes _ (from-body m rest i l .1) in
     let high : at bytes (4 + e + 3 * i) ≡ at (m .changes) i / entryBase % 256 = read 0 _ (omega arith) in
     let mid : at bytes (5 + e + 3 * i) ≡ at (m .changes) i / 256 % 256 = read 1 _ (omega arith) in
@@ -144,11 +144,11 @@ body-bytes (c ∷ cs) (suc (suc zero)) = omega arith
 body-bytes (c ∷ cs) (suc (suc (suc i))) = body-bytes cs i
 
 -- The units of a legal message are bytes.
-unit-bytes : (n : ℕ) (m : Message) → Legal n m → n ≤ unitLimit → Under 256 (map unitOf (m .changes))
+unit-bytes : (n : ℕ) (m : Message) → Legal n m → n ≤ unitLimit → Under 256 (map changedUnit (m .changes))
 unit-bytes n m legal h i =
     ⊎-elim
-    (λ l. omega (arith, map-at unitOf (m .changes) i 0 0 l, legal .each i l .unit))
-    (λ l. omega (arith, List·getD-eq-default (map unitOf (m .changes)) 0 {n = i} (rw (length-map (m .changes) unitOf) l)))
+    (λ l. omega (arith, map-at changedUnit (m .changes) i 0 0 l, legal .each i l .unit))
+    (λ l. omega (arith, List·getD-eq-default (map changedUnit (m .changes)) 0 {n = i} (rw (length-map (m .changes) changedUnit) l)))
     (less-or-not i (length (m .changes)))
 
 -- Every number that a legal message is written as is a byte.
@@ -159,7 +159,7 @@ written-bytes n m legal h (suc zero) = omega arith
 written-bytes n m legal h (suc (suc zero)) = omega arith
 written-bytes n m legal h (suc (suc (suc zero))) = omega arith
 written-bytes n m legal h (suc (suc (suc (suc i)))) =
-    under-append 256 (map unitOf (m .changes)) (bodyBytes (m .changes)) (unit-bytes n m legal h) (body-bytes (m .changes)) i
+    under-append 256 (map changedUnit (m .changes)) (bodyBytes (m .changes)) (unit-bytes n m legal h) (body-bytes (m .changes)) i
 
 -- The three bytes of a change are those that it is made of.
 digits : (u a b c : ℕ) → a < 256 → b < 256 → c < 256 → body (change u (a * entryBase + b * 256 + c)) ≡ a ∷ b ∷ c ∷ []
@@ -172,14 +172,14 @@ digits u a b c p q r =
 
 module _ (bytes : List ℕ) (small : Under 256 bytes) (e : ℕ) (long : length bytes ≡ writtenLength e) where
   -- The units of the changes are the bytes after the first four.
-  units-part : map unitOf (tab e (changeAt bytes e)) ≡ take e (drop 4 bytes)
+  units-part : map changedUnit (tab e (changeAt bytes e)) ≡ take e (drop 4 bytes)
   unfolding changeAt
   units-part =
-      map-tab unitOf e (changeAt bytes e)
-      ∙ tab-ext e (λ i. unitOf (changeAt bytes e i)) (λ i. at bytes (4 + i)) unit
+      map-tab changedUnit e (changeAt bytes e)
+      ∙ tab-ext e (λ i. changedUnit (changeAt bytes e i)) (λ i. at bytes (4 + i)) unit
       ∙ tab-part 4 e bytes (omega arith)
     where
-      unit : (i : ℕ) → i < e → unitOf (changeAt bytes e i) ≡ at bytes (4 + i)
+      unit : (i : ℕ) → i < e → changedUnit (changeAt bytes e i) ≡ at bytes (4 + i)
       unit i l =
           omega (arith, small (4 + e + 3 * i), small (5 + e + 3 * i), small (6 + e + 3 * i))
 

@@ -1,4 +1,4 @@
--- One event at one unit: steps A to F.
+-- Rule: one event at one unit, steps A to F.
 use Prim.Native.Nat.{ℕ, _+_, min}
 use mathlib.Core.Bool.{Bool, not, _&&_, _||_}
 use mathlib.Core.List.{List, [], _∷_}
@@ -9,7 +9,7 @@ use Rattle.ground.specs.Refusal.{_gives_, _otherwise_}
 use Rattle.ground.specs.Rows.{at, tab, zeros, some, same}
 use Rattle.tree.specs.Recompute.{copyOf, recomputed}
 use Rattle.tree.specs.Tree.{distance, isTree}
-use Rattle.rules.specs.Message.{Message, acknowledgment, update, holdsAcknowledgment, holdsUpdate, differences, applied, unitOf, bodyOf, entryOf}
+use Rattle.rules.specs.Message.{Message, acknowledgment, update, holdsAcknowledgment, holdsUpdate, differences, applied, changedUnit, bodyOf, entryOf}
 use Rattle.rules.specs.Unit.{Unit, isNeighbour, awaits, isActive, ownDistance}
 
 -- A message received, "Link up", "Cost", "Link down", each about the link to one neighbour.
@@ -149,7 +149,7 @@ reaction u e =
 -- 11: "an entry that changes nothing in the copy"
 unfoldable pub changesNothing : (copy changes : List ℕ) → Bool
 changesNothing copy changes =
-    some (length changes) (λ i. eqb (at copy (unitOf (at changes i))) (entryOf (bodyOf (at changes i))))
+    some (length changes) (λ i. eqb (at copy (changedUnit (at changes i))) (entryOf (bodyOf (at changes i))))
 
 -- Refusals 10 to 12 of a message that keeps the layout and came by a link that is up.
 unfoldable pub messageRefusal : Unit → Message → ℕ

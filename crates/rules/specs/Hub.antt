@@ -1,4 +1,4 @@
--- One unit as hub firmware uses it: calls with numbers and bytes, and the messages of an event in a lent buffer.
+-- Rule: one unit as hub firmware uses it: calls with numbers and bytes, and the messages of an event in a lent buffer.
 use Prim.Native.Nat.{ℕ, _+_}
 use mathlib.Core.Bool.{Bool, not, _&&_}
 use mathlib.Core.List.{List, [], _∷_, _++_}
@@ -129,3 +129,11 @@ feasibleAnswer words to =
 
 unfoldable pub successorsAnswer : (words : List ℕ) (to : ℕ) → ℕ
 successorsAnswer words to = hubAnswer (questionRefusal words to) (successorSet (unitFrom words) to)
+
+-- "For each neighbour whose link is up: the cost, .. whether an acknowledgment is awaited": the cost is 0 where the link is
+-- down, and the wait 1 or 0.
+unfoldable pub linkAnswer : (words : List ℕ) (to : ℕ) → ℕ
+linkAnswer words to = hubAnswer (questionRefusal words to) (at (unitFrom words .costs) to)
+
+unfoldable pub awaitsAnswer : (words : List ℕ) (to : ℕ) → ℕ
+awaitsAnswer words to = hubAnswer (questionRefusal words to) (at (unitFrom words .awaited) to)

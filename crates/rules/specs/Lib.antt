@@ -1,5 +1,4 @@
--- The rules of one unit, of the network of units, of their messages, their tables, the tracer and the C border.
-pub mod Border
+-- The rules of one unit, of the network of units, of their messages, their tables and the tracer.
 pub mod Event
 pub mod Hub
 pub mod Message

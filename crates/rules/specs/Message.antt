@@ -1,4 +1,4 @@
--- Messages between neighbours: differences of trees, and the bytes that carry them.
+-- Rule: messages between neighbours: differences of trees, and the bytes that carry them.
 use Prim.Native.Nat.{ℕ, zero, suc, _+_, _-_, _*_, _/_, _%_}
 use mathlib.Core.Bool.{Bool, not, _&&_, _||_}
 use mathlib.Core.List.{List, [], _∷_, _++_, map}
@@ -15,8 +15,8 @@ use Rattle.tree.specs.Tree.{nothing, headOf, costOf}
 abbrev pub change : (unit body : ℕ) → ℕ
 change unit body = unit * changeBase + body
 
-abbrev pub unitOf : ℕ → ℕ
-unitOf c = c / changeBase
+abbrev pub changedUnit : ℕ → ℕ
+changedUnit c = c / changeBase
 
 abbrev pub bodyOf : ℕ → ℕ
 bodyOf c = c % changeBase
@@ -58,14 +58,14 @@ differences (suc j) old new =
 -- "its update changes the sender's copy"
 unfoldable pub applied : (copy changes : List ℕ) → List ℕ
 applied copy [] = copy
-applied copy (c ∷ rest) = applied (set copy (unitOf c) (entryOf (bodyOf c))) rest
+applied copy (c ∷ rest) = applied (set copy (changedUnit c) (entryOf (bodyOf c))) rest
 
 -- "changed units, strictly rising, below the count, never the sender"
 unfoldable pub legalUnit : (n sender : ℕ) (changes : List ℕ) (i : ℕ) → Bool
 legalUnit n sender changes i =
-    ltb (unitOf (at changes i)) n
-    && not (eqb (unitOf (at changes i)) sender)
-    && (eqb i 0 || ltb (unitOf (at changes (i - 1))) (unitOf (at changes i)))
+    ltb (changedUnit (at changes i)) n
+    && not (eqb (changedUnit (at changes i)) sender)
+    && (eqb i 0 || ltb (changedUnit (at changes (i - 1))) (changedUnit (at changes i)))
 
 -- "or 255 and cost 0 for a removed entry. A head that isn't 255 is below the count and differs from its unit, and its
 -- cost is 1 to 65,535."
@@ -77,7 +77,7 @@ legalBody n unit body =
 unfoldable pub legalChanges : (n sender : ℕ) (changes : List ℕ) → Bool
 legalChanges n sender changes =
     every (length changes) (λ i.
-    legalUnit n sender changes i && legalBody n (unitOf (at changes i)) (bodyOf (at changes i)))
+    legalUnit n sender changes i && legalBody n (changedUnit (at changes i)) (bodyOf (at changes i)))
 
 -- "sender, below the count"; "number of entries, 0 to the count less one"; "No entries without the update bit; an update
 -- without entries is legal."
@@ -102,7 +102,7 @@ bodyBytes (c ∷ rest) = c / entryBase % 256 ∷ c / 256 % 256 ∷ c % 256 ∷ b
 unfoldable pub written : Message → List ℕ
 written m =
     edition ∷ m .sender ∷ m .kind ∷ length (m .changes)
-    ∷ (map unitOf (m .changes) ++ bodyBytes (m .changes))
+    ∷ (map changedUnit (m .changes) ++ bodyBytes (m .changes))
 
 -- "Length is exactly 4 plus 4 for each entry."
 abbrev pub writtenLength : (entries : ℕ) → ℕ

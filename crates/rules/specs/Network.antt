@@ -1,4 +1,4 @@
--- The network of units with its queues: link up, cost, link down and delivery.
+-- Rule: the network of units with its queues: link up, cost, link down and delivery.
 use Prim.Native.Nat.{ℕ}
 use mathlib.Core.Bool.{Bool, not, _&&_, _||_, Bool·beq}
 use mathlib.Core.List.{List, [], _++_}

@@ -1,4 +1,4 @@
--- The network's calls and questions over its tables: numbers for the units, bytes for the queues. A refusal, below 100,
+-- Rule: the network's calls and questions over its tables: numbers for the units, bytes for the queues. A refusal, below 100,
 -- changes nothing; an accepted call answers 100, a question 100 plus the value, and the largest number for unreachable.
 use Prim.Native.Nat.{ℕ}
 use mathlib.Core.Bool.{not, _&&_}
@@ -44,8 +44,8 @@ unfoldable pub freshBytes : (words bytes : List ℕ) (n : ℕ) → List ℕ
 freshBytes words bytes n =
     if eqb (freshNetworkRefusal words bytes n) accepted then laidQueues (fresh n) else bytes
 
--- Questions: the state of unit i, and its distance, feasible distance and successors for destination j. "A distance from a
--- unit to itself is legal".
+-- Questions: the state of unit i, its distance, feasible distance and successors for destination j, and its link to j: the
+-- cost, 0 where it is down, and whether an acknowledgment is awaited. "A distance from a unit to itself is legal".
 abbrev pub unitRefusal : (words bytes : List ℕ) (i : ℕ) → ℕ
 unitRefusal words bytes i =
     not (fitTables words bytes) gives 2 otherwise not (ltb i (networkFrom words bytes .count)) gives 3
@@ -72,6 +72,12 @@ feasibleBetween words bytes i j =
 unfoldable pub successorsBetween : (words bytes : List ℕ) (i j : ℕ) → ℕ
 successorsBetween words bytes i j =
     hubAnswer (pairRefusal words bytes i j) (successorSet (unitAt (networkFrom words bytes) i) j)
+
+unfoldable pub linkBetween : (words bytes : List ℕ) (i j : ℕ) → ℕ
+linkBetween words bytes i j = hubAnswer (pairRefusal words bytes i j) (at (unitAt (networkFrom words bytes) i .costs) j)
+
+unfoldable pub awaitsBetween : (words bytes : List ℕ) (i j : ℕ) → ℕ
+awaitsBetween words bytes i j = hubAnswer (pairRefusal words bytes i j) (at (unitAt (networkFrom words bytes) i .awaited) j)
 
 -- The tracer: 2, 3, 7, else a trace, whose path is laid into the buffer.
 abbrev pub traceTableRefusal : (words bytes : List ℕ) (start destination : ℕ) (choices path : List ℕ) → ℕ

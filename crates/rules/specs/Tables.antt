@@ -1,4 +1,4 @@
--- How tables of numbers and of bytes hold a state. Each state has one encoding: a row is filled up with zeros to the unit
+-- Rule: how tables of numbers and of bytes hold a state. Each state has one encoding: a row is filled up with zeros to the unit
 -- limit, units at or above the count hold zeros, and a free place of a queue holds zeros. Tables are fit when the state
 -- read from them is fit and they are exactly what that state lays out.
 use Prim.Native.Nat.{ℕ, _+_, _*_, _/_, _%_}
@@ -13,26 +13,26 @@ use Rattle.rules.specs.Network.{Network, queue, fitNetwork}
 use Rattle.rules.specs.Unit.{Unit, successorSet, fitUnit}
 
 -- The index rule of a unit's table: the count, the unit's own number, then rows of unitLimit numbers.
-abbrev pub rowAt : (row : ℕ) → ℕ
-rowAt row = 2 + row * unitLimit
+abbrev pub rowStart : (row : ℕ) → ℕ
+rowStart row = 2 + row * unitLimit
 
 abbrev pub costsAt : ℕ
-costsAt = rowAt 0
+costsAt = rowStart 0
 
 abbrev pub awaitedAt : ℕ
-awaitedAt = rowAt 1
+awaitedAt = rowStart 1
 
 abbrev pub treeAt : ℕ
-treeAt = rowAt 2
+treeAt = rowStart 2
 
 abbrev pub feasibleAt : ℕ
-feasibleAt = rowAt 3
+feasibleAt = rowStart 3
 
 abbrev pub successorsAt : ℕ
-successorsAt = rowAt 4
+successorsAt = rowStart 4
 
 abbrev pub copyAt : (k : ℕ) → ℕ
-copyAt k = rowAt (5 + k)
+copyAt k = rowStart (5 + k)
 
 abbrev pub unitWords : ℕ
 unitWords = copyAt unitLimit

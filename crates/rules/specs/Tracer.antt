@@ -1,4 +1,4 @@
--- The tracer: following successors from a start to a destination, each chosen by a byte.
+-- Rule: the tracer: following successors from a start to a destination, each chosen by a byte.
 use Prim.Native.Nat.{ℕ, zero, suc, _-_, _%_}
 use mathlib.Core.Bool.{not, _||_}
 use mathlib.Core.List.{List, [], _∷_, _++_}

@@ -1,4 +1,4 @@
--- A unit's tables, and what can be asked of them. Rows have a place for each unit below the count.
+-- Rule: a unit's tables, and what can be asked of them. Rows have a place for each unit below the count.
 use Prim.Native.Nat.{ℕ}
 use mathlib.Core.Bool.{Bool, not, _&&_, _||_}
 use mathlib.Core.List.{List}

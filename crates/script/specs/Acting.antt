@@ -1,4 +1,4 @@
--- A command's call and its answer, and the line that the answer prints.
+-- Order: a command's call and its answer, and the line that the answer prints. proofs/Verdicts.antt shows that it is `printed`.
 use Prim.Native.Nat.{ℕ, _*_}
 use mathlib.Core.List.{List}
 use lib.Dec.{eqb, leb}

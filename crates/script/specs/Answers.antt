@@ -1,4 +1,5 @@
--- What a line prints, and what it leaves of the tables.
+-- Rule: what a line prints, and what it leaves of the tables.
+-- Order: `answerRoom`: the room that every answer finds enough (proofs/Room.antt).
 use Prim.Native.Nat.{ℕ, _*_}
 use mathlib.Core.List.{List}
 use lib.Dec.{eqb}

@@ -8,7 +8,7 @@ use ground::ANSWERED;
 use ground::UNITS;
 use lines::Command;
 use network::calls;
-use network::questions;
+use network::fresh;
 use slices::bytes;
 use texts::LINE_ROOM;
 use texts::text;
@@ -26,11 +26,11 @@ fn act(words: &mut [u32], queues: &mut [u8], command: Command) -> u32
     ensures queues { λ r. ⌜ now (queues .exit) ≡ bytesThen (now (words .entry)) (now (queues .entry)) command ⌝ }
 {
     match command {
-        Command::Units(count) => questions::network_fresh(count, words, queues),
-        Command::Up(a, b, ca, cb) => calls::network_up(words, queues, a, b, ca, cb),
-        Command::Cost(a, b, cost) => calls::network_cost(words, queues, a, b, cost),
-        Command::Down(a, b) => calls::network_down(words, queues, a, b),
-        Command::Deliver(a, b) => calls::network_deliver(words, queues, a, b),
+        Command::Units(count) => fresh::fresh(count, words, queues),
+        Command::Up(a, b, ca, cb) => calls::up(words, queues, a, b, ca, cb),
+        Command::Cost(a, b, cost) => calls::cost(words, queues, a, b, cost),
+        Command::Down(a, b) => calls::down(words, queues, a, b),
+        Command::Deliver(a, b) => calls::deliver(words, queues, a, b),
         Command::Show => BAD,
         Command::Bad => BAD,
     }

@@ -1,4 +1,4 @@
--- Texts put into a buffer behind what is used.
+-- Words: texts put into a buffer behind what is used.
 use Prim.Native.Nat.{ℕ, _+_, min, max}
 use mathlib.Core.List.{List}
 use lib.ListN.{length}

@@ -1,4 +1,4 @@
--- Numbers laid over others, and numbers that are all 0.
+-- Words: numbers laid over others, and numbers that are all 0.
 use Prim.Native.Nat.{ℕ, _+_}
 use mathlib.Core.Bool.{Bool}
 use mathlib.Core.List.{List}

@@ -2,6 +2,8 @@
 pub mod Fitness
 pub mod Fresh
 pub mod Holding
+pub mod ListedAnswers
+pub mod OneOutput
 pub mod QuestionAnswers
 pub mod Successors
 pub mod Tables

@@ -1,4 +1,5 @@
--- A unit as the code holds it, in arrays of fixed length with zeros from the count on, and the unit that such arrays hold.
+-- Order: a unit as the code holds it, in arrays of fixed length with zeros from the count on, and the unit that such arrays
+-- hold. proofs/Holding.antt leads from `unitFrom` and to `laidUnit`, proofs/Tables.antt so for any numbers.
 use Prim.Native.Nat.{ℕ, _+_, _/_, _%_}
 use mathlib.Core.Bool.{_&&_}
 use mathlib.Core.List.{List, _∷_, _++_, map}

@@ -20,7 +20,7 @@ use slices::numbers;
 // Where each row begins.
 pub const COSTS: usize = 2;
 
-const AWAITED: usize = COSTS + UNITS;
+pub(crate) const AWAITED: usize = COSTS + UNITS;
 
 const TREE: usize = AWAITED + UNITS;
 

@@ -6,8 +6,8 @@ ghost use Prim.Native.Nat.{_≤_};
 ghost use Rattle.ground.specs.Limits.{unitLimit, longest, far};
 ghost use Rattle.rules.specs.Tables.{laidRow};
 ghost use Rattle.rules.specs.Unit.{freshUnit};
-ghost use Rattle.state.specs.Asked.{noRow, rowAnswer, askedOf};
-ghost use Rattle.rules.specs.Hub.{freshTableAnswer, freshTable, activeAnswer, questionRefusal, distanceAnswer, feasibleAnswer, successorsAnswer, reachable};
+ghost use Rattle.state.specs.Asked.{noRow, rowAnswer, askedOf, Listed, listedAnswer};
+ghost use Rattle.rules.specs.Hub.{freshTableAnswer, freshTable, activeAnswer, questionRefusal, distanceAnswer, feasibleAnswer, reachable};
 use crate::fit;
 use crate::held;
 use crate::held::Held;
@@ -132,14 +132,16 @@ fn feasible(table: &[u32], to: u32) -> u32
     reach(feasible[to as usize])
 }
 
-fn successors(table: &[u32], to: u32) -> u32
-    ensures { λ r. ⌜ r ≡ successorsAnswer (now (table .entry)) to ⌝ }
+// A question whose answer stands in a row of the table as it is.
+fn listed(table: &[u32], row: usize, to: u32) -> u32
+    requires { ⌜ Listed row ⌝ }
+    ensures { λ r. ⌜ r ≡ listedAnswer (now (table .entry)) row to ⌝ }
 {
     let number = question_refusal(table, to);
     if number != 0 {
         return number;
     }
-    ANSWERED + table[held::SUCCESSORS + to as usize]
+    ANSWERED + table[row + to as usize]
 }
 
 // What can be asked of a unit about a destination.
@@ -147,6 +149,10 @@ pub enum Question {
     Distance,
     Feasible,
     Successors,
+    // The cost of the link to it, 0 where that is down.
+    Link,
+    // Whether its acknowledgment is awaited.
+    Awaits,
 }
 
 // The answer to a question about a destination.
@@ -156,7 +162,9 @@ pub fn ask(table: &[u32], question: Question, to: u32) -> u32
     match question {
         Question::Distance => distance(table, to),
         Question::Feasible => feasible(table, to),
-        Question::Successors => successors(table, to),
+        Question::Successors => listed(table, held::SUCCESSORS, to),
+        Question::Link => listed(table, held::COSTS, to),
+        Question::Awaits => listed(table, held::AWAITED, to),
     }
 }
 

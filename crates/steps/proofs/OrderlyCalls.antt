@@ -21,7 +21,8 @@ use Rattle.rules.specs.Network.{withQueue, reacted, happens, outcome, overflows
 use Rattle.rules.specs.Network.{fitQueue}
 use Rattle.rules.specs.Unit.{Unit, isNeighbour}
 use Rattle.ground.proofs.Choices.{by-choice}
-use Rattle.ground.proofs.Each.{none, each-drop, each-at}
+use Rattle.ground.specs.Each.{none}
+use Rattle.ground.proofs.Each.{each-drop, each-at}
 use Rattle.ground.proofs.Lists.{parts}
 use Rattle.ground.proofs.Rows.{some-none}
 use Rattle.ground.proofs.Tests.{not-both}

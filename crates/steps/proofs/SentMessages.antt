@@ -18,7 +18,7 @@ use Rattle.rules.specs.Message.{Message, acknowledgment, update, legalMessage}
 use Rattle.rules.specs.Network.{fitQueued}
 use Rattle.rules.specs.Unit.{Unit, isNeighbour, isActive, fitUnit}
 use Rattle.ground.proofs.Choices.{by-choice}
-use Rattle.ground.proofs.Each.{none, one}
+use Rattle.ground.specs.Each.{none, one}
 use Rattle.ground.proofs.Rows.{tab-at}
 use Rattle.ground.proofs.Tests.{both-of}
 use Rattle.tree.proofs.Rooted.{zeros-tree}

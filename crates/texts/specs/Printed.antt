@@ -1,4 +1,5 @@
--- The lines that are printed, for the answer of a call and for a unit's state and ways.
+-- Rule: the lines that are printed, for the answer of a call and for a unit's state and ways.
+-- Order: `lineRoom`, `isSome`, `memberText`: room, and successors put one by one (proofs/Lengths.antt, proofs/Successors.antt).
 use Prim.Native.Nat.{ℕ, zero, suc}
 use mathlib.Core.Bool.{Bool, not}
 use mathlib.Core.List.{List, [], _∷_, _++_}

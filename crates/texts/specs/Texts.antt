@@ -1,4 +1,4 @@
--- Texts are lists of bytes: bytes that have a meaning, decimals, and the words that are printed.
+-- Rule: texts are lists of bytes: decimals, and the words that are printed.
 use Prim.Native.Nat.{ℕ, zero, suc, _+_, _-_, _/_, _%_}
 use mathlib.Core.List.{List, [], _∷_, _++_}
 use lib.Dec.{ltb}

@@ -1,4 +1,4 @@
--- Recomputing a unit's tree from its link costs and the copies of its neighbours' trees. `costs` holds 0 where the link
+-- Rule: recomputing a unit's tree from its link costs and the copies of its neighbours' trees. `costs` holds 0 where the link
 -- is down. Unit `me` is the one that recomputes.
 use Prim.Native.Nat.{ℕ}
 use mathlib.Core.Bool.{not, _||_}

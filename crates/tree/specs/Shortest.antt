@@ -1,4 +1,4 @@
--- Shortest distances from a root over links, a row of costs for each unit that a link leaves, unreachable where there
+-- Rule: shortest distances from a root over links, a row of costs for each unit that a link leaves, unreachable where there
 -- is no link. They are the least over all walks of at most the count less one links, found by allowing one more link at
 -- a time; proofs/Shortest.antt shows that they are the only solution of the three facts that the word stands for.
 use Prim.Native.Nat.{ℕ, zero, suc, _-_, min}

@@ -1,4 +1,4 @@
--- "A tree rooted at a unit gives each other unit either nothing or a head (the unit before it) and a link cost."
+-- Rule: "A tree rooted at a unit gives each other unit either nothing or a head (the unit before it) and a link cost."
 -- A tree is a row, a number for each unit: head × 65,536 + cost, or 0 for nothing. A cost is at least 1, so nothing has
 -- no second form, and two entries are equal exactly when their numbers are.
 use Prim.Native.Nat.{ℕ, zero, suc, _+_, _-_, _*_, _/_, _%_, min}

@@ -16,18 +16,21 @@ use Rattle.ground.specs.Choice.{if_then_else_}
 use Rattle.ground.specs.Limits.{unitLimit, entryLimit, messageRoom}
 use Rattle.ground.specs.Refusal.{accepted}
 use Rattle.ground.specs.Rows.{at, tab, zeros, filled, joined, laidAfter}
+use Rattle.ground.specs.Said.{said}
 use Rattle.rules.specs.Hub.{outgoingTo}
 use Rattle.rules.specs.Message.{acknowledgment, update, change, bodyFor, differences, written, writtenLength, writeRefusal}
 use Rattle.message.specs.Fields.{fieldsOf}
-use Rattle.message.specs.Writing.{writingOf, frameAfter}
+use Rattle.message.specs.Writing.{writingSaid, lengthValue, frameAfter}
 use Rattle.message.specs.declared.writer.Written.{Written}
 use Rattle.message.specs.declared.writer.Written.the-variants.{Length, Refused}
 use Rattle.ground.proofs.Filled.{filled-more, take-filled}
 use Rattle.ground.proofs.Joined.{joined-more}
 use Rattle.ground.proofs.Limits.{count-legal}
+use Rattle.ground.proofs.Said.{said-accepted}
 use Rattle.rules.proofs.Differences.{differences-most, differences-same, differences-other}
 use Rattle.rules.proofs.LegalMessages.{legal-of}
 use Rattle.rules.proofs.Written.{written-length}
+use Rattle.message.proofs.OneAnswer.{one-writing}
 use Rattle.unit.specs.Sending.{listed, kindFor, bytesTo, Sendable}
 use Rattle.unit.specs.declared.send.Changes.{Changes}
 
@@ -94,12 +97,10 @@ module _ (n me k kind : ℕ) (changes buffer : List ℕ) (used : ℕ) (can : Sen
       )
 
   -- It answers the message's length.
-  answered-one : writingOf n (fieldsOf kind me changes) (length numbered) (used + 1) ≡ Length (writtenLength (length changes))
-  unfolding writingOf
-  answered-one = rw unrefused
-
-  pub answered-by : {r : Written} → r ≡ writingOf n (fieldsOf kind me changes) (length numbered) (used + 1) → r ≡ Length (writtenLength (length changes))
-  answered-by e = e ∙ answered-one
+  pub answered-by : {r : Written}
+      → writingSaid r ≡ said (writeRefusal n (fieldsOf kind me changes) (length numbered) (used + 1)) (lengthValue (fieldsOf kind me changes))
+      → r ≡ Length (writtenLength (length changes))
+  answered-by {r} e = one-writing r (Length (writtenLength (length changes))) (e ∙ said-accepted _ _ unrefused)
 
   -- The bytes used then.
   used-one : used + 1 + writtenLength (length changes) ≡ used + length (bytesTo k kind me changes)

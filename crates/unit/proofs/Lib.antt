@@ -8,4 +8,5 @@ mod LaidMessages
 pub mod LinkRefusals
 pub mod MessageCalls
 mod NotedArrays
+pub mod OneOutput
 pub mod ReadyCalls

@@ -1,5 +1,6 @@
--- A unit's calls as the code has them, and what step A makes of one; and the refusals of calls in parts: those about the table
--- and the link's ends, those about the link, and those of a message's content.
+-- Order: a unit's calls as the code has them, and what step A makes of one; and the refusals of calls in parts: those about the
+-- table and the link's ends, those about the link, and those of a message's content. proofs/LinkRefusals.antt and
+-- proofs/MessageCalls.antt show that together they are `tableRefusal`.
 use Prim.Native.Nat.{ℕ, _<_}
 use mathlib.Core.Bool.{Bool, true, not, _&&_}
 use mathlib.Core.List.{List}

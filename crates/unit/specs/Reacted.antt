@@ -1,4 +1,4 @@
--- What the code's reaction leaves, from the rules' reaction.
+-- Order: what the code's reaction leaves, piece by piece. proofs/Composed.antt shows that together it is `reactionBy`.
 use Prim.Native.Nat.{ℕ, min}
 use mathlib.Core.Bool.{Bool, true, not, _&&_, _||_}
 use mathlib.Core.List.{List}

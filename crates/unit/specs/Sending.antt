@@ -1,4 +1,5 @@
--- The messages of an event as bytes in the lent buffer.
+-- Order: the messages of an event as bytes in the lent buffer, one by one. proofs/AllMessages.antt and
+-- proofs/Composed.antt show that they are `outgoing`.
 use Prim.Native.Nat.{ℕ, _+_, _≤_, _<_}
 use mathlib.Core.Bool.{Bool, true}
 use mathlib.Core.List.{List, [], _∷_}

@@ -52,6 +52,7 @@ fn take(unit: Held, from: u32, bytes: &[u8]) -> Noted
         entries,
     } = answer
     else {
+        // No refusal is left to pass on: `refusing` read the same bytes.
         return Noted {
             unit,
             new: count,

@@ -95,7 +95,7 @@ fn content_refusal(unit: Held, from: usize, bytes: &[u8]) -> u32
         entries,
     } = answer
     else {
-        return 9;
+        return reader::refusal_of(answer);
     };
     if sender as usize != from {
         return 9;

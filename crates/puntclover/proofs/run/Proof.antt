@@ -1,32 +1,14 @@
--- `puntclover::run` is safe and ends. From turn to turn the slices keep their lengths, and the line, the input and the
--- answers that wait lie within theirs; the measure is the number of turns that are left.
+-- `puntclover::run` is safe: what is written lies within `out`.
 use borrow.Author.Needs.{needs}
-use Prim.Native.Nat.{_≤_}
-use mathlib.Core.Path.{_≡_}
-use lib.ListN.{length}
+use native.Mathlib.Omega.{arith}
+use lib.ListN.{length-take}
 use Rattle.puntclover.proofs.run.Statement.{statement}
 use Rattle.puntclover.proofs.run.Tie as tie
-
-abbrev Inv-loop : tie.InvT-loop
-Inv-loop words₀ queues₀ line₀ input₀ out₀ progress₀ turns₀ words queues line input out progress turns =
-    (length words ≡ length words₀)
-    × (length queues ≡ length queues₀)
-    × (length line ≡ length line₀)
-    × (length input ≡ length input₀)
-    × (length out ≡ length out₀)
-    × (progress .held ≤ length line)
-    × (progress .filled ≤ length input)
-    × (progress .used ≤ length out)
-
-abbrev μ-loop : tie.MeasureT-loop
-μ-loop words₀ queues₀ line₀ input₀ out₀ progress₀ turns₀ words queues line input out progress turns = turns
 
 pub run-spec : {M : Type 1} → statement M
 run-spec =
     tie.close
     (tie.spec
-    Inv-loop
-    μ-loop
+    (λ c κs. search needs) (λ c κs. search needs) (λ c. search needs) (λ c. simp length-take (omega arith)) (λ c κs. search needs)
     (λ c. search needs) (λ c. search needs) (λ c. search needs) (λ c. search needs) (λ c. search needs)
-    (λ c. search needs) (λ c. search needs) (λ c. search needs) (λ c. search needs) (λ c. search needs)
-    (λ c. search needs) (λ c. search needs))
+    (λ c. search needs))

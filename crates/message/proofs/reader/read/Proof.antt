@@ -3,20 +3,19 @@ use mathlib.Core.Path.{sym, _∙_}
 use borrow.Author.Needs.{needs}
 use borrow.Author.Tests.{not-true, not-false}
 use Rattle.ground.proofs.Limits.{count-legal, count-low, count-high}
-use Rattle.message.proofs.Readings.{bad-count, not-framed, framed-length}
+use Rattle.message.proofs.Readings.{as-refused, bad-count, not-framed, framed-length}
 use Rattle.message.proofs.reader.read.Statement.{statement}
 use Rattle.message.proofs.reader.read.Tie as tie
 
 returns : tie.Need-returns
-returns c = c .refused .ensures ∙ sym (bad-count _ _ (count-low _ (c .before .if1 .taken)))
+returns c = as-refused _ _ (c .refused .result) (c .refused .ensures) (bad-count _ _ (count-low _ (c .before .if1 .taken)))
 
 returns-2 : tie.Need-returns-2
-returns-2 c = c .refused2 .ensures ∙ sym (bad-count _ _ (count-high _ (c .before .if2 .taken)))
+returns-2 c = as-refused _ _ (c .refused2 .result) (c .refused2 .ensures) (bad-count _ _ (count-high _ (c .before .if2 .taken)))
 
 returns-3 : tie.Need-returns-3
 returns-3 c =
-    c .refused3 .ensures
-    ∙ sym
+    as-refused _ _ (c .refused3 .result) (c .refused3 .ensures)
     (not-framed _ _ (count-legal _ (c .before .before .before .before .if1 .left) (c .before .before .before .if2 .left))
     (sym (c .before .before .is-framed .ensures) ∙ not-true _ (c .before .if3 .taken)))
 

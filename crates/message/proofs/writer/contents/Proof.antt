@@ -8,7 +8,7 @@ use lib.ListN.{length, take}
 use lib.Seq.{take-all}
 use Rattle.ground.specs.Limits.{messageRoom}
 use Rattle.ground.specs.Rows.{filled}
-use Rattle.rules.specs.Message.{edition, unitOf}
+use Rattle.rules.specs.Message.{edition, changedUnit}
 use Rattle.message.specs.Writing.{contentsOf}
 use Rattle.message.proofs.Writings.{contents-more, low-byte, high-byte}
 use Rattle.message.proofs.writer.contents.Statement.{statement}
@@ -19,12 +19,12 @@ abbrev front : (kind sender : ℕ) (changes : List ℕ) → List ℕ
 front kind sender changes = edition ∷ sender ∷ kind ∷ length changes ∷ []
 
 abbrev contentsUpTo : (kind sender : ℕ) (changes : List ℕ) (i : ℕ) → List ℕ
-contentsUpTo kind sender changes i = front kind sender changes ++ map unitOf (take i changes)
+contentsUpTo kind sender changes i = front kind sender changes ++ map changedUnit (take i changes)
 
 all-contents : (kind sender : ℕ) (changes : List ℕ) (i : ℕ) → i ≡ length changes
     → contentsUpTo kind sender changes i ≡ contentsOf kind sender changes
 all-contents kind sender changes i e =
-    ap (λ (l : List ℕ). front kind sender changes ++ map unitOf l) (take-all i changes (omega arith))
+    ap (λ (l : List ℕ). front kind sender changes ++ map changedUnit l) (take-all i changes (omega arith))
 
 abbrev Inv-loop : tie.InvT-loop
 Inv-loop kind sender changes built₀ i₀ built i =

@@ -21,7 +21,7 @@ returns-2 c =
     let going = called .before .before in
     let args = going .before .before .before .before .before .before .before .args in
     as-traced _ _ _ _ (args .choices .now) (args .path .now) (going .before .trace-refusal .ensures) (going .if1 .left)
-    (called .follow .ensures .0) (called .follow .ensures .1)
+    (called .follow .result) (called .follow .ensures .0) (called .follow .ensures .1)
 
 pub trace-spec : {M : Type 1} → statement M
 trace-spec =

@@ -9,31 +9,31 @@ returns : tie.Need-returns
 unfolding wordsThen bytesThen
 returns c =
     let called = c .before .before .before .before in
-    rw (called .before .before .before .before .command .given .1) (called .network-fresh .ensures)
+    rw (called .before .before .before .before .command .given .1) (called .fresh .ensures)
 
 returns-2 : tie.Need-returns-2
 unfolding wordsThen bytesThen
 returns-2 c =
     let called = c .before .before .before .before in
-    rw (called .before .before .before .before .command2 .given .1) (called .network-up .ensures)
+    rw (called .before .before .before .before .command2 .given .1) (called .up .ensures)
 
 returns-3 : tie.Need-returns-3
 unfolding wordsThen bytesThen
 returns-3 c =
     let called = c .before .before .before .before in
-    rw (called .before .before .before .before .command3 .given .1) (called .network-cost .ensures)
+    rw (called .before .before .before .before .command3 .given .1) (called .cost .ensures)
 
 returns-4 : tie.Need-returns-4
 unfolding wordsThen bytesThen
 returns-4 c =
     let called = c .before .before .before .before in
-    rw (called .before .before .before .before .command4 .given .1) (called .network-down .ensures)
+    rw (called .before .before .before .before .command4 .given .1) (called .down .ensures)
 
 returns-5 : tie.Need-returns-5
 unfolding wordsThen bytesThen
 returns-5 c =
     let called = c .before .before .before .before in
-    rw (called .before .before .before .before .command5 .given .1) (called .network-deliver .ensures)
+    rw (called .before .before .before .before .command5 .given .1) (called .deliver .ensures)
 
 returns-6 : tie.Need-returns-6
 unfolding wordsThen bytesThen

@@ -6,7 +6,7 @@ use mathlib.Core.Path.{_≡_, sym, _∙_}
 use borrow.Author.Needs.{needs}
 use lib.ListN.{length, set, length-set}
 use Rattle.ground.specs.Limits.{unitLimit}
-use Rattle.rules.specs.Tables.{rowAt, unitWords}
+use Rattle.rules.specs.Tables.{rowStart, unitWords}
 use Rattle.recomputing.specs.Flat.{flatLength}
 use Rattle.state.proofs.Holding.{Begins, begins-two, begins-more, begins-all}
 use Rattle.state.proofs.held.lay.Statement.{statement}
@@ -78,23 +78,23 @@ begins0 : (c : tie.Start)
     → Begins 2 (laid0 c) (set (set (c .args .table .now) 0 (c .args .unit .count)) 1 (c .args .unit .me))
 begins0 c = begins-two (c .args .unit .count) (c .args .unit .me) (c .args .table .now) (c .pre .0)
 
-begins1 : (c : tie.After-put-row) → Begins (rowAt 1) (laid1 (start1 c)) (c .put-row .last .0)
-begins1 c = begins-more (rowAt 0) unitLimit _ _ _ _ (begins0 (start1 c)) (omega arith) (long (start1 c) .costs) (c .put-row .ensures)
+begins1 : (c : tie.After-put-row) → Begins (rowStart 1) (laid1 (start1 c)) (c .put-row .last .0)
+begins1 c = begins-more (rowStart 0) unitLimit _ _ _ _ (begins0 (start1 c)) (omega arith) (long (start1 c) .costs) (c .put-row .ensures)
 
-begins2 : (c : tie.After-put-row2) → Begins (rowAt 2) (laid2 (start2 c)) (c .put-row2 .last .0)
-begins2 c = begins-more (rowAt 1) unitLimit _ _ _ _ (begins1 (c .before .before .before .before)) (omega arith) (long (start2 c) .awaited) (c .put-row2 .ensures)
+begins2 : (c : tie.After-put-row2) → Begins (rowStart 2) (laid2 (start2 c)) (c .put-row2 .last .0)
+begins2 c = begins-more (rowStart 1) unitLimit _ _ _ _ (begins1 (c .before .before .before .before)) (omega arith) (long (start2 c) .awaited) (c .put-row2 .ensures)
 
-begins3 : (c : tie.After-put-row3) → Begins (rowAt 3) (laid3 (start3 c)) (c .put-row3 .last .0)
-begins3 c = begins-more (rowAt 2) unitLimit _ _ _ _ (begins2 (c .before .before .before .before)) (omega arith) (long (start3 c) .tree) (c .put-row3 .ensures)
+begins3 : (c : tie.After-put-row3) → Begins (rowStart 3) (laid3 (start3 c)) (c .put-row3 .last .0)
+begins3 c = begins-more (rowStart 2) unitLimit _ _ _ _ (begins2 (c .before .before .before .before)) (omega arith) (long (start3 c) .tree) (c .put-row3 .ensures)
 
-begins4 : (c : tie.After-put-row4) → Begins (rowAt 4) (laid4 (start4 c)) (c .put-row4 .last .0)
-begins4 c = begins-more (rowAt 3) unitLimit _ _ _ _ (begins3 (c .before .before .before .before)) (omega arith) (long (start4 c) .feasible) (c .put-row4 .ensures)
+begins4 : (c : tie.After-put-row4) → Begins (rowStart 4) (laid4 (start4 c)) (c .put-row4 .last .0)
+begins4 c = begins-more (rowStart 3) unitLimit _ _ _ _ (begins3 (c .before .before .before .before)) (omega arith) (long (start4 c) .feasible) (c .put-row4 .ensures)
 
-begins5 : (c : tie.After-put-row5) → Begins (rowAt 5) (laid5 (start5 c)) (c .put-row5 .last .0)
-begins5 c = begins-more (rowAt 4) unitLimit _ _ _ _ (begins4 (c .before .before .before .before)) (omega arith) (long (start5 c) .successors) (c .put-row5 .ensures)
+begins5 : (c : tie.After-put-row5) → Begins (rowStart 5) (laid5 (start5 c)) (c .put-row5 .last .0)
+begins5 c = begins-more (rowStart 4) unitLimit _ _ _ _ (begins4 (c .before .before .before .before)) (omega arith) (long (start5 c) .successors) (c .put-row5 .ensures)
 
 begins6 : (c : tie.After-put-copies) → Begins unitWords (laid6 (start6 c)) (c .put-copies .last .0)
-begins6 c = begins-more (rowAt 5) flatLength _ _ _ _ (begins5 (c .before .before .before .before)) (omega arith) (long (start6 c) .copies) (c .put-copies .ensures)
+begins6 c = begins-more (rowStart 5) flatLength _ _ _ _ (begins5 (c .before .before .before .before)) (omega arith) (long (start6 c) .copies) (c .put-copies .ensures)
 
 same-length : tie.Need-same-length
 same-length c = begins6 (c .before .before) .long ∙ sym (start6 (c .before .before) .pre .0)

@@ -7,7 +7,7 @@ use lib.ListN.{length-set, length, take}
 use lib.Seq.{take-all}
 use Rattle.ground.specs.Limits.{unitLimit}
 use Rattle.ground.specs.Rows.{at}
-use Rattle.rules.specs.Message.{unitOf, applied as appliedTo}
+use Rattle.rules.specs.Message.{changedUnit, applied as appliedTo}
 use Rattle.rules.proofs.Applied.{applied-next}
 use Rattle.unit.proofs.noting.applied.Statement.{statement}
 use Rattle.unit.proofs.noting.applied.Tie as tie
@@ -20,7 +20,7 @@ abbrev μ-loop : tie.MeasureT-loop
 
 -- The change that is read is of a unit that has a place, and fits its width.
 has-place : (c : tie.After-shared-slice-known2 Inv-loop μ-loop)
-    → unitOf (at (c .before .before .before .before .args .changes .now) (c .before .before .loop .i)) < unitLimit
+    → changedUnit (at (c .before .before .before .before .args .changes .now) (c .before .before .loop .i)) < unitLimit
 has-place c = c .before .before .before .before .pre (c .before .before .loop .i) (c .before .loop-test .taken)
 
 loop-holds : tie.Need-loop-holds Inv-loop μ-loop

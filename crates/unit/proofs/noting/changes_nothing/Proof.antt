@@ -12,7 +12,7 @@ use lib.ListN.{length}
 use Rattle.ground.specs.Limits.{unitLimit}
 use Rattle.ground.specs.Rows.{at, some}
 use Rattle.rules.specs.Event.{changesNothing}
-use Rattle.rules.specs.Message.{unitOf, bodyOf, entryOf}
+use Rattle.rules.specs.Message.{changedUnit, bodyOf, entryOf}
 use Rattle.ground.proofs.Rows.{some-of}
 use Rattle.ground.proofs.Tests.{neither-of}
 use Rattle.unit.proofs.noting.changes_nothing.Statement.{statement}
@@ -20,7 +20,7 @@ use Rattle.unit.proofs.noting.changes_nothing.Tie as tie
 
 -- Whether change i leaves the copy as it is.
 abbrev isKept : (copy changes : List ℕ) (i : ℕ) → Bool
-isKept copy changes i = eqb (at copy (unitOf (at changes i))) (entryOf (bodyOf (at changes i)))
+isKept copy changes i = eqb (at copy (changedUnit (at changes i))) (entryOf (bodyOf (at changes i)))
 
 abbrev Inv-loop : tie.InvT-loop
 Inv-loop changes copy i₀ i = (i ≤ length changes) × (some i (isKept copy changes) ≡ false)
@@ -30,7 +30,7 @@ abbrev μ-loop : tie.MeasureT-loop
 
 -- The change that is read is of a unit that has a place, and fits its width.
 has-place : (c : tie.After-shared-slice-known2 Inv-loop μ-loop)
-    → unitOf (at (c .before .before .before .before .args .changes .now) (c .before .before .loop .i)) < unitLimit
+    → changedUnit (at (c .before .before .before .before .args .changes .now) (c .before .before .loop .i)) < unitLimit
 has-place c = c .before .before .before .before .pre (c .before .before .loop .i) (c .before .loop-test .taken)
 
 cast-j : tie.Need-cast-j Inv-loop μ-loop

@@ -9,7 +9,7 @@ use lib.ListN.{length}
 use Rattle.ground.specs.Limits.{unitLimit, legalCount}
 use Rattle.ground.proofs.Limits.{count-legal}
 use Rattle.rules.proofs.FitUnit.{fit-facts}
-use Rattle.message.proofs.ReaderAnswers.{Taken, taken, unread}
+use Rattle.message.proofs.ReaderAnswers.{Taken, taken, unread, passed-on}
 use Rattle.state.specs.Holding.{unitOf}
 use Rattle.unit.proofs.ContentRefusals.{refused-unread, refused-sender, refused-wait, Awaited, refused-idle}
 use Rattle.unit.proofs.ContentRefusals.{after-length, refused-tree, refused-none}
@@ -53,11 +53,12 @@ cast-read c = omega (arith, held-high (c .before .before .pre .0))
 
 returns : tie.Need-returns
 returns c =
-    let begun = c .before .before .before .before .before in
-    refused-unread (unitOf (begun .args .unit)) (begun .args .from) (begun .args .bytes .now)
-    (unread _ (begun .args .bytes .now) (c .before .before .read .result) (legal begun)
-    (c .before .before .read .ensures)
-    (c .enum-told .given .1))
+    let begun = c .before .before .before .before .before .before in
+    let read = c .before .before .before .read in
+    let told = c .before .enum-told .given .1 in
+    passed-on _ (begun .args .bytes .now) (read .result) (legal begun) (read .ensures) told (c .refusal-of .ensures)
+    ∙ refused-unread (unitOf (begun .args .unit)) (begun .args .from) (begun .args .bytes .now)
+    (unread _ (begun .args .bytes .now) (read .result) (legal begun) (read .ensures) told)
 
 returns-2 : tie.Need-returns-2
 returns-2 c =
@@ -165,7 +166,7 @@ content-refusal-spec =
     tie.close
     (tie.spec
     cast-read
-    (λ c. search needs) (λ c. search needs) (λ c. search needs)
+    (λ c. search needs) (λ c. search needs) (λ c. search needs) (λ c. search needs)
     returns
     (λ c. search needs)
     returns-2

@@ -1,0 +1,5 @@
+-- The C border: what its functions answer, and what they leave in the bytes that are lent.
+pub mod HubBytes
+pub mod MessageBytes
+pub mod NetworkBytes
+pub mod Numbers

@@ -1,0 +1,15 @@
+-- The contract of each public function leaves one output (`OneOutput` of ground/specs/Unique.antt).
+use Rattle.ground.specs.Unique.{OneOutput}
+use Rattle.ground.proofs.Unique.{agree}
+use Rattle.texts.proofs.row
+use Rattle.texts.proofs.text
+
+-- The bytes used, and the buffer.
+pub text-put-refused-once : OneOutput text.put_refused.ended text.put_refused.Reads.Learnt
+text-put-refused-once _ _ _ _ p q i = (agree (p .0) (q .0) i, (agree (p .1) (q .1) i, _))
+
+pub row-put-state-once : OneOutput row.put_state.ended row.put_state.Reads.Learnt
+row-put-state-once _ _ _ _ p q i = (agree (p .0) (q .0) i, (agree (p .1) (q .1) i, _))
+
+pub row-put-pair-once : OneOutput row.put_pair.ended row.put_pair.Reads.Learnt
+row-put-pair-once _ _ _ _ p q i = (agree (p .0) (q .0) i, (agree (p .1) (q .1) i, _))

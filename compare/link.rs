@@ -1,22 +1,21 @@
-//! What the build scripts of the comparisons share: linking the static archive
-//! of a crate of the product, which `rt staticlib` writes. It is looked for in
-//! the repository's `target/staticlib`, or in the folder that the environment
-//! variable `PUNTCLOVER_LIBS` names.
+//! What the build scripts of the comparisons share: linking the product's
+//! archive, which `make` writes. It is looked for in the repository's `target`,
+//! or in the folder that the environment variable `PUNTCLOVER_LIBS` names.
 
 use std::env;
 use std::path::PathBuf;
 use std::process;
 
-/// Links the archive of a crate, which has to be there.
-pub fn archive_of(name: &str) {
+/// Links the archive, which has to be there.
+pub fn archive() {
     println!("cargo:rerun-if-env-changed=PUNTCLOVER_LIBS");
-    let folder = env::var_os("PUNTCLOVER_LIBS")
-        .map_or_else(|| PathBuf::from("../../target/staticlib"), PathBuf::from);
-    let archive = folder.join(format!("lib{name}.a"));
+    let folder =
+        env::var_os("PUNTCLOVER_LIBS").map_or_else(|| PathBuf::from("../../target"), PathBuf::from);
+    let archive = folder.join("libpuntclover.a");
     println!("cargo:rerun-if-changed={}", archive.display());
     let Ok(archive) = archive.canonicalize() else {
         eprintln!(
-            "{} is missing: run `rt staticlib {name}` in the repository, \
+            "{} is missing: run `make` in the repository, \
              or set PUNTCLOVER_LIBS to the folder that holds the archive",
             archive.display()
         );
@@ -24,5 +23,5 @@ pub fn archive_of(name: &str) {
     };
     let folder = archive.parent().unwrap_or(&folder);
     println!("cargo:rustc-link-search=native={}", folder.display());
-    println!("cargo:rustc-link-lib=static={name}");
+    println!("cargo:rustc-link-lib=static=puntclover");
 }

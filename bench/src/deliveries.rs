@@ -7,7 +7,7 @@
 use crate::site::{Site, Step};
 use networks::call::Call;
 use second::limits::ACCEPTED;
-use second::network_tables::{Tables, BYTES, WORDS};
+use second::network_tables::{Tables, QUEUES_BYTES, UNITS_BYTES};
 use std::hint::black_box;
 
 /// A delivery and the tables before it.
@@ -80,8 +80,7 @@ pub fn second_delivers(deliveries: &[Recorded], tables: &mut [Tables]) {
 
 /// The bytes that a network takes, whatever its count.
 pub fn print_bytes() {
-    let (words, queues) = (size_of::<u32>() * WORDS, BYTES);
-    println!("tables  {words:>6} bytes, {WORDS} numbers");
-    println!("queues  {queues:>6} bytes");
-    println!("both    {:>6} bytes", words + queues);
+    println!("units   {UNITS_BYTES:>6} bytes");
+    println!("queues  {QUEUES_BYTES:>6} bytes");
+    println!("both    {:>6} bytes", UNITS_BYTES + QUEUES_BYTES);
 }

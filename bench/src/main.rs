@@ -16,8 +16,12 @@
 //! * `bench bytes`: the bytes of a network's tables and queues.
 //! * `bench stack`: the bytes of stack that a call uses, the most over all
 //!   events and questions of all networks.
+//! * `bench flips`: of the bits of a hub's table, those that pass the test of the
+//!   table when they are turned round.
 
 mod deliveries;
+mod depths;
+mod flips;
 mod record;
 mod site;
 mod stack;
@@ -25,8 +29,8 @@ mod stack;
 use hubs::table;
 use record::Recorded;
 use second::limits::{ACCEPTED, FIRMWARE_ROOM, UNITS};
-use shared::tally::grouped;
 use site::SHAPES;
+use std::collections::BTreeMap;
 use std::env;
 use std::hint::black_box;
 use std::process::ExitCode;
@@ -35,9 +39,6 @@ use std::time::{Duration, Instant};
 /// The counts of units that are measured.
 const COUNTS: [u32; 3] = [4, 8, UNITS as u32];
 
-/// The bytes of stack that a call may use.
-const STACK_LIMIT: usize = 16_384;
-
 /// How long each side is measured.
 const LONG: Duration = Duration::from_millis(700);
 
@@ -45,10 +46,13 @@ fn main() -> ExitCode {
     let words: Vec<String> = env::args().skip(1).collect();
     let words: Vec<&str> = words.iter().map(String::as_str).collect();
     match words.as_slice() {
-        ["networks"] => networks().for_each(|(shape, count)| println!("{shape} {count}")),
+        ["networks"] => {
+            networks_measured().for_each(|(shape, count)| println!("{shape} {count}"));
+        }
         ["time"] => time(),
         ["stack"] => stack(),
         ["bytes"] => deliveries::print_bytes(),
+        ["flips"] => flips::print(),
         [what @ ("once" | "deliveries"), shape, count] => {
             let Ok(count) = count.parse() else {
                 return ExitCode::from(2);
@@ -60,7 +64,7 @@ fn main() -> ExitCode {
         }
         _ => {
             eprintln!(
-                "usage: bench networks | time | stack | bytes | once SHAPE COUNT | deliveries SHAPE COUNT"
+                "usage: bench networks | time | stack | bytes | flips | once SHAPE COUNT | deliveries SHAPE COUNT"
             );
             return ExitCode::from(2);
         }
@@ -69,7 +73,7 @@ fn main() -> ExitCode {
 }
 
 /// The networks that are measured.
-fn networks() -> impl Iterator<Item = (&'static str, u32)> {
+fn networks_measured() -> impl Iterator<Item = (&'static str, u32)> {
     let with_counts = |shape| COUNTS.map(|count| (shape, count));
     SHAPES.into_iter().flat_map(with_counts)
 }
@@ -108,7 +112,7 @@ fn time() {
     println!(
         "network    events/s, C border    events/s, second    ratio (above 1: C border faster)"
     );
-    for (shape, count) in networks() {
+    for (shape, count) in networks_measured() {
         let events = record::events(shape, count);
         let product = per_second(&events, with_product);
         let second = per_second(&events, with_second);
@@ -137,22 +141,15 @@ fn once(shape: &str, count: u32) {
 }
 
 fn stack() {
-    let mut most = std::collections::BTreeMap::new();
-    for (shape, count) in networks() {
-        for (name, used) in stack::used(record::events(shape, count)) {
-            let kept = most.entry(name).or_insert(0);
-            *kept = used.max(*kept);
-        }
+    print_stack("hub", &depths::of_hubs());
+    print_stack("network", &depths::of_networks());
+}
+
+fn print_stack(what: &str, used: &BTreeMap<&str, usize>) {
+    for (name, used) in used {
+        let name = format!("{what}_{name}");
+        println!("{name:18} {used:>6} bytes");
     }
-    for (name, used) in &most {
-        println!("hub_{name:11} {used:>6} bytes");
-    }
-    let used = most.values().max().copied().unwrap_or(0);
-    let verdict = if used <= STACK_LIMIT {
-        "within"
-    } else {
-        "ABOVE"
-    };
-    let limit = grouped(STACK_LIMIT as u64);
-    println!("most           {used:>6} bytes, {verdict} {limit}");
+    let most = used.values().max().copied().unwrap_or(0);
+    println!("{what:10} at most {most:>6} bytes");
 }

@@ -5,10 +5,6 @@
 //! longer of that colour tells how deep the call went. The frames of the Rust
 //! wrapper around the C function count too, some hundred bytes.
 
-use crate::record::Recorded;
-use hubs::call::Call;
-use hubs::table;
-use second::limits::FIRMWARE_ROOM;
 use std::collections::BTreeMap;
 use std::ffi::c_void;
 use std::ptr;
@@ -16,7 +12,7 @@ use std::ptr;
 const STACK: usize = 1 << 20;
 const PAINT: u64 = 0xa5a5_a5a5_a5a5_a5a5;
 /// The most that is painted, far more than a call may use.
-const PAINTED: usize = 256 << 10;
+const PAINTED: usize = 512 << 10;
 
 /// Room for the thread's attributes, more than any system asks for.
 type Attributes = [u64; 32];
@@ -33,30 +29,21 @@ extern "C" {
     fn pthread_join(thread: usize, answer: *mut *mut c_void) -> i32;
 }
 
+/// A call that is measured. It is made twice, on the same tables each time.
+pub struct Measured {
+    /// The function that is called.
+    pub name: &'static str,
+    /// The call, which needs little stack of its own.
+    pub call: Box<dyn FnMut()>,
+}
+
 struct Job {
-    calls: Vec<Recorded>,
+    calls: Vec<Measured>,
     most: BTreeMap<&'static str, usize>,
 }
 
-/// The most bytes used by each function over the events, and over questions on
-/// the tables that they met.
-pub fn used(mut calls: Vec<Recorded>) -> BTreeMap<&'static str, usize> {
-    let tables: Vec<Vec<u8>> = calls
-        .iter()
-        .step_by(50)
-        .map(|it| it.table.clone())
-        .collect();
-    for table in tables {
-        for call in [
-            Call::Active,
-            Call::Distance(1),
-            Call::Feasible(1),
-            Call::Successors(1),
-        ] {
-            let table = table.clone();
-            calls.push(Recorded { table, call });
-        }
-    }
+/// The most bytes used by each function over the calls.
+pub fn used(calls: Vec<Measured>) -> BTreeMap<&'static str, usize> {
     let mut job = Job {
         calls,
         most: BTreeMap::new(),
@@ -82,22 +69,19 @@ pub fn used(mut calls: Vec<Recorded>) -> BTreeMap<&'static str, usize> {
 extern "C" fn measure(job: *mut c_void) -> *mut c_void {
     // SAFETY: `used` hands over a job that nobody else touches meanwhile.
     let job = unsafe { &mut *job.cast::<Job>() };
-    let (mut table, mut out) = ([0; table::BYTES], [0; FIRMWARE_ROOM]);
-    for turn in 0..2 {
-        for it in &job.calls {
-            table.copy_from_slice(&it.table);
-            let depth = depth_of(&it.call, &mut table, &mut out);
-            // The first turn only warms up.
-            let most = job.most.entry(it.call.name()).or_insert(0);
-            *most = if turn == 0 { 0 } else { depth.max(*most) };
-        }
+    for it in &mut job.calls {
+        // The first time only warms up.
+        (it.call)();
+        let depth = depth_of(&mut it.call);
+        let most = job.most.entry(it.name).or_insert(0);
+        *most = depth.max(*most);
     }
     ptr::null_mut()
 }
 
 /// The bytes below this function's frame that one call has touched.
 #[inline(never)]
-fn depth_of(call: &Call, table: &mut [u8], out: &mut [u8]) -> usize {
+fn depth_of(call: &mut dyn FnMut()) -> usize {
     let mut marker = 0_u64;
     let frame = (&raw mut marker).addr() & !7;
     // The painting keeps away from this function's own frame.
@@ -107,7 +91,7 @@ fn depth_of(call: &Call, table: &mut [u8], out: &mut [u8]) -> usize {
         // SAFETY: the place lies in the lent stack, below all live frames.
         unsafe { ptr::with_exposed_provenance_mut::<u64>(place).write_volatile(PAINT) };
     }
-    call.of_product(table, out);
+    call();
     let touched = (lowest..top).step_by(8).find(|&place| {
         // SAFETY: as above.
         unsafe { ptr::with_exposed_provenance::<u64>(place).read_volatile() != PAINT }

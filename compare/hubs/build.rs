@@ -1,8 +1,8 @@
-//! Links the archive of the crate `firmware`.
+//! Links the product's archive.
 
 #[path = "../link.rs"]
 mod link;
 
 fn main() {
-    link::archive_of("firmware");
+    link::archive();
 }

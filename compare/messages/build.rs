@@ -1,8 +1,8 @@
-//! Links the archive of the crate `message`.
+//! Links the product's archive.
 
 #[path = "../link.rs"]
 mod link;
 
 fn main() {
-    link::archive_of("message");
+    link::archive();
 }

@@ -46,6 +46,7 @@
 //! * [`fit`]: whether tables obey the rules, for tables set up by hand.
 //! * [`unit_table`], [`network_tables`]: the same tables as numbers and bytes,
 //!   laid out, and read only if they are fit.
+//! * [`table_bytes`]: the numbers of a table as bytes.
 //! * [`refusal`]: the numbers with which a request is refused.
 //! * [`script`]: the command lines and their answers, on streams.
 //!
@@ -73,6 +74,7 @@ pub mod queues;
 pub mod recompute;
 pub mod refusal;
 pub mod script;
+pub mod table_bytes;
 pub mod tracer;
 pub mod tree;
 pub mod unit;

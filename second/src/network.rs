@@ -119,6 +119,19 @@ impl Network {
         Ok(&self.unit(unit).successors[&destination])
     }
 
+    /// The cost of the link from a unit to another, none where it is down.
+    /// Refused with 3.
+    pub fn link(&self, unit: u32, other: u32) -> Result<Option<u16>, Refusal> {
+        let (unit, other) = self.two_units(unit, other)?;
+        Ok(self.unit(unit).link(other))
+    }
+
+    /// Whether a unit awaits an acknowledgment of another. Refused with 3.
+    pub fn awaits(&self, unit: u32, other: u32) -> Result<bool, Refusal> {
+        let (unit, other) = self.two_units(unit, other)?;
+        Ok(self.unit(unit).awaits(other))
+    }
+
     /// A unit and a destination, which may be equal, else refused with 3.
     fn two_units(&self, a: u32, b: u32) -> Result<(UnitNumber, UnitNumber), Refusal> {
         Ok((legal_unit(self.count(), a)?, legal_unit(self.count(), b)?))

@@ -1,5 +1,5 @@
-//! A network's tables: numbers for the units, bytes for the queues, by the index
-//! rule of `docs/TABLES.md`.
+//! A network's tables, both as bytes: the units' numbers and the queues, by the
+//! index rule of `docs/TABLES.md`.
 //!
 //! The reader decides whether tables are fit from refusal 2's own words: each
 //! place is held to the rule about it, and what no rule explains is unfit. It
@@ -11,12 +11,19 @@ use crate::message::{self, Message};
 use crate::network::Network;
 use crate::queues::Queues;
 use crate::refusal::{legal_count, Refusal, UNFIT};
+use crate::table_bytes::{self, EACH};
 use crate::tree::UnitNumber;
 use crate::unit::Unit;
 use crate::unit_table;
 
 /// The numbers of all units' tables.
 pub const WORDS: usize = UNITS * unit_table::WORDS;
+
+/// The bytes of one unit's table.
+pub const UNIT_BYTES: usize = EACH * unit_table::WORDS;
+
+/// The bytes of all units' tables.
+pub const UNITS_BYTES: usize = EACH * WORDS;
 
 /// The bytes of a message's place, those of the longest message.
 pub const PLACE: usize = MESSAGE_ROOM;
@@ -25,13 +32,13 @@ pub const PLACE: usize = MESSAGE_ROOM;
 pub const QUEUE: usize = QUEUE_ROOM * PLACE;
 
 /// The bytes of all queues.
-pub const BYTES: usize = UNITS * UNITS * QUEUE;
+pub const QUEUES_BYTES: usize = UNITS * UNITS * QUEUE;
 
 /// The tables of a network, or what claims to be such.
 #[derive(Clone, Debug, PartialEq, Eq)]
 pub struct Tables {
     /// The units' tables one after the other.
-    pub words: Vec<u32>,
+    pub units: Vec<u8>,
     /// The queues: for each unit that sends, one to each other.
     pub queues: Vec<u8>,
 }
@@ -42,15 +49,20 @@ pub fn queue_at(from: UnitNumber, to: UnitNumber) -> usize {
 }
 
 impl Tables {
+    /// Zeros, which are the tables of no network.
+    pub fn zeros() -> Tables {
+        Tables {
+            units: vec![0; UNITS_BYTES],
+            queues: vec![0; QUEUES_BYTES],
+        }
+    }
+
     /// The tables of a fit network.
     pub fn of(network: &Network) -> Tables {
-        let mut tables = Tables {
-            words: vec![0; WORDS],
-            queues: vec![0; BYTES],
-        };
-        let places = tables.words.chunks_exact_mut(unit_table::WORDS);
-        for (words, unit) in places.zip(&network.units) {
-            unit_table::lay(unit, words);
+        let mut tables = Tables::zeros();
+        let places = tables.units.chunks_exact_mut(UNIT_BYTES);
+        for (table, unit) in places.zip(&network.units) {
+            table_bytes::lay(&unit_table::laid_out(unit), table);
         }
         for (from, to, queue) in network.queues.waiting() {
             let places = tables.queues[queue_at(from, to)..].chunks_exact_mut(PLACE);
@@ -63,7 +75,17 @@ impl Tables {
 
     /// The network that the tables hold, or 2.
     pub fn read(&self) -> Result<Network, Refusal> {
-        read(&self.words, &self.queues)
+        read(&self.units, &self.queues)
+    }
+
+    /// The number at an index of the units' tables.
+    pub fn number(&self, place: usize) -> u32 {
+        table_bytes::number_at(&self.units, place)
+    }
+
+    /// Sets the number at an index of the units' tables.
+    pub fn set_number(&mut self, place: usize, number: u32) {
+        table_bytes::set_number_at(&mut self.units, place, number);
     }
 }
 
@@ -75,18 +97,19 @@ fn lay_message(count: u8, message: &Message, place: &mut [u8]) {
 }
 
 /// The network that lent slices hold, or 2.
-pub fn read(words: &[u32], queues: &[u8]) -> Result<Network, Refusal> {
-    network(words, queues).ok_or(UNFIT)
+pub fn read(units: &[u8], queues: &[u8]) -> Result<Network, Refusal> {
+    network(units, queues).ok_or(UNFIT)
 }
 
-fn network(words: &[u32], queues: &[u8]) -> Option<Network> {
+fn network(units: &[u8], queues: &[u8]) -> Option<Network> {
     // "a slice not of its fixed length"
-    if words.len() != WORDS || queues.len() != BYTES {
+    if units.len() != UNITS_BYTES || queues.len() != QUEUES_BYTES {
         return None;
     }
+    let words = table_bytes::numbers(units);
     let count = legal_count(words[unit_table::COUNT]).ok()?;
     let mut network = Network {
-        units: units(count, words)?,
+        units: units_of(count, &words)?,
         queues: Queues::default(),
     };
     if !network.links_are_fit() {
@@ -110,7 +133,7 @@ fn network(words: &[u32], queues: &[u8]) -> Option<Network> {
 }
 
 /// Each unit below the count with its own number, and zeros above.
-fn units(count: u8, words: &[u32]) -> Option<Vec<Unit>> {
+fn units_of(count: u8, words: &[u32]) -> Option<Vec<Unit>> {
     let mut tables = words.chunks_exact(unit_table::WORDS);
     let mut units = Vec::new();
     for (number, table) in (0..count).zip(&mut tables) {
@@ -156,7 +179,7 @@ pub fn word_name(word: usize) -> String {
     format!("unit {unit}, {place}")
 }
 
-/// What stands at an index of the bytes, for a report.
+/// What stands at an index of the queues, for a report.
 pub fn byte_name(byte: usize) -> String {
     let queue = byte / QUEUE;
     let (from, to) = (queue / UNITS, queue % UNITS);

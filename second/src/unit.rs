@@ -75,6 +75,18 @@ impl Unit {
         self.tree.distance(destination)
     }
 
+    /// The cost of the link to a unit, none where it is down; no unit has a
+    /// link to itself.
+    pub fn link(&self, other: UnitNumber) -> Option<u16> {
+        self.neighbours.get(&other).map(|neighbour| neighbour.cost)
+    }
+
+    /// "Whether an acknowledgment is awaited" of a unit.
+    pub fn awaits(&self, other: UnitNumber) -> bool {
+        let neighbour = self.neighbours.get(&other);
+        neighbour.is_some_and(|neighbour| neighbour.awaited)
+    }
+
     /// The link to a neighbour comes up at a cost. Refused with 3, 4, 5.
     ///
     /// A: "Link up: cost set, copy empty."

@@ -245,9 +245,35 @@ fn queries_outside_the_count() {
     assert_eq!(network.distance(0, 3), Err(3));
     assert_eq!(network.feasible(3, 0), Err(3));
     assert_eq!(network.successors(0, 256), Err(3));
+    assert_eq!(network.link(3, 0), Err(3));
+    assert_eq!(network.awaits(0, 3), Err(3));
     assert_eq!(network.distance(1, 1), Ok(Distance::ZERO));
     assert_eq!(network.feasible(1, 1), Ok(Distance::ZERO));
     assert!(network.successors(1, 1).unwrap().is_empty());
+}
+
+/// The cost from each end, and who is awaited, while the link is up; neither
+/// before, after, nor to itself.
+#[test]
+fn links_and_waits() {
+    let mut network = Network::fresh(3).unwrap();
+    assert_eq!(network.link(0, 1), Ok(None));
+    network.up(0, 1, 5, 7).unwrap();
+    assert_eq!(network.link(0, 1), Ok(Some(5)));
+    assert_eq!(network.link(1, 0), Ok(Some(7)));
+    assert_eq!(network.link(0, 0), Ok(None));
+    assert_eq!(network.awaits(0, 1), Ok(true));
+    assert_eq!(network.awaits(0, 0), Ok(false));
+    assert_eq!(network.awaits(0, 2), Ok(false));
+    drain(&mut network);
+    assert_eq!(network.awaits(0, 1), Ok(false));
+    network.cost(0, 1, 9).unwrap();
+    assert_eq!(network.link(0, 1), Ok(Some(9)));
+    assert_eq!(network.awaits(0, 1), Ok(true));
+    assert_eq!(network.awaits(1, 0), Ok(false));
+    network.down(0, 1).unwrap();
+    assert_eq!(network.link(0, 1), Ok(None));
+    assert_eq!(network.awaits(0, 1), Ok(false));
 }
 
 /// What fitness of a network means beyond that of its units.

@@ -3,7 +3,8 @@
 
 use second::limits::{QUEUE_ROOM, UNITS};
 use second::network::Network;
-use second::network_tables::{byte_name, queue_at, word_name, Tables, BYTES, PLACE, QUEUE, WORDS};
+use second::network_tables::{byte_name, queue_at, word_name, Tables};
+use second::network_tables::{PLACE, QUEUE, QUEUES_BYTES, UNITS_BYTES, UNIT_BYTES, WORDS};
 use second::refusal::UNFIT;
 use second::unit_table::{COSTS, COUNT, FEASIBLE, NUMBER, WORDS as UNIT};
 
@@ -42,16 +43,17 @@ fn is_fit(tables: &Tables) -> bool {
 #[test]
 fn two_units_by_hand() {
     let mut tables = Tables {
-        words: vec![0; 5_408],
+        units: vec![0; 21_632],
         queues: vec![0; 65_536],
     };
     for (place, word) in [(0, 2), (3, 5), (19, 1), (35, 5), (51, 5), (67, 2)] {
-        tables.words[place] = word;
+        tables.units[4 * place + 3] = word;
     }
     for (place, word) in [(0, 2), (1, 1), (2, 7), (18, 1), (50, 7), (66, 1)] {
-        tables.words[338 + place] = word;
+        tables.units[1_352 + 4 * place + 3] = word;
     }
-    tables.words[338 + 34] = 1 << 16 | 7;
+    tables.units[1_352 + 4 * 34 + 1] = 1;
+    tables.units[1_352 + 4 * 34 + 3] = 7;
     tables.queues[256..264].copy_from_slice(&[1, 0, 2, 1, 1, 0, 0, 5]);
     tables.queues[4_096..4_104].copy_from_slice(&[1, 1, 2, 1, 0, 1, 0, 7]);
     assert_eq!(Tables::of(&p3()), tables);
@@ -83,15 +85,16 @@ fn names_of_places() {
 fn lengths() {
     let fit = Tables::of(&chain());
     assert!(is_fit(&fit));
-    for words in [0, WORDS - 1, WORDS + 1] {
+    let others = |whole: usize| [0, whole - 4, whole - 1, whole + 1, whole + 4];
+    for bytes in others(UNITS_BYTES) {
         let mut tables = fit.clone();
-        tables.words.resize(words, 0);
-        assert!(!is_fit(&tables), "{words} numbers");
+        tables.units.resize(bytes, 0);
+        assert!(!is_fit(&tables), "{bytes} bytes of units");
     }
-    for bytes in [0, BYTES - 1, BYTES + 1] {
+    for bytes in others(QUEUES_BYTES) {
         let mut tables = fit.clone();
         tables.queues.resize(bytes, 0);
-        assert!(!is_fit(&tables), "{bytes} bytes");
+        assert!(!is_fit(&tables), "{bytes} bytes of queues");
     }
 }
 
@@ -111,7 +114,8 @@ fn unfit_numbers() {
     ];
     for (place, word) in places {
         let mut tables = fit.clone();
-        tables.words[place] = word;
+        tables.set_number(place, word);
+        assert_eq!(tables.number(place), word);
         assert!(!is_fit(&tables), "{}: {word}", word_name(place));
     }
 }
@@ -120,8 +124,8 @@ fn unfit_numbers() {
 #[test]
 fn units_in_each_others_places() {
     let mut tables = Tables::of(&chain());
-    let (first, rest) = tables.words.split_at_mut(UNIT);
-    first.swap_with_slice(&mut rest[..UNIT]);
+    let (first, rest) = tables.units.split_at_mut(UNIT_BYTES);
+    first.swap_with_slice(&mut rest[..UNIT_BYTES]);
     assert!(!is_fit(&tables));
 }
 

@@ -63,7 +63,7 @@ fn frames(count: u8, outbox: &Outbox) -> Vec<u8> {
 }
 
 /// Whether the unit is ACTIVE.
-pub fn active(unit: &Unit) -> u32 {
+pub fn state(unit: &Unit) -> u32 {
     ACCEPTED + u32::from(unit.is_active())
 }
 
@@ -80,6 +80,16 @@ pub fn feasible(unit: &Unit, to: u32) -> u32 {
 /// The successors for a destination. Refused with 3.
 pub fn successors(unit: &Unit, to: u32) -> u32 {
     about(unit, to, |j| ACCEPTED + set_number(&unit.successors[&j]))
+}
+
+/// The cost of the link to a unit, 0 where it is down. Refused with 3.
+pub fn link(unit: &Unit, to: u32) -> u32 {
+    about(unit, to, |k| ACCEPTED + unit.link(k).map_or(0, u32::from))
+}
+
+/// Whether an acknowledgment of a unit is awaited. Refused with 3.
+pub fn awaits(unit: &Unit, to: u32) -> u32 {
+    about(unit, to, |k| ACCEPTED + u32::from(unit.awaits(k)))
 }
 
 fn about(unit: &Unit, to: u32, answer: impl FnOnce(UnitNumber) -> u32) -> u32 {

@@ -17,16 +17,28 @@ pub enum Call {
     /// Bytes have come from a unit.
     Message(u32, Vec<u8>),
     /// Whether the unit is ACTIVE.
-    Active,
+    State,
     /// The distance of a destination.
     Distance(u32),
     /// The feasible distance of a destination.
     Feasible(u32),
     /// The successors for a destination.
     Successors(u32),
+    /// The cost of the link to a unit.
+    Link(u32),
+    /// Whether an acknowledgment of a unit is awaited.
+    Awaits(u32),
 }
 
 impl Call {
+    /// Whether it may change the table.
+    pub fn is_event(&self) -> bool {
+        matches!(
+            self,
+            Call::Up(..) | Call::Cost(..) | Call::Down(..) | Call::Message(..)
+        )
+    }
+
     /// The function that is called.
     pub fn name(&self) -> &'static str {
         match self {
@@ -34,10 +46,12 @@ impl Call {
             Call::Cost(..) => "cost",
             Call::Down(..) => "down",
             Call::Message(..) => "message",
-            Call::Active => "active",
+            Call::State => "state",
             Call::Distance(..) => "distance",
             Call::Feasible(..) => "feasible",
             Call::Successors(..) => "successors",
+            Call::Link(..) => "link",
+            Call::Awaits(..) => "awaits",
         }
     }
 
@@ -48,10 +62,12 @@ impl Call {
             Call::Cost(to, cost) => product::cost(table, *to, *cost, out),
             Call::Down(to) => product::down(table, *to, out),
             Call::Message(from, bytes) => product::message(table, *from, bytes, out),
-            Call::Active => product::active(table),
+            Call::State => product::state(table),
             Call::Distance(to) => product::distance(table, *to),
             Call::Feasible(to) => product::feasible(table, *to),
             Call::Successors(to) => product::successors(table, *to),
+            Call::Link(to) => product::link(table, *to),
+            Call::Awaits(to) => product::awaits(table, *to),
         }
     }
 
@@ -64,10 +80,12 @@ impl Call {
             Call::Message(from, bytes) => {
                 border::event_on(unit, out, |unit| unit.message_bytes(*from, bytes))
             }
-            Call::Active => border::active(unit),
+            Call::State => border::state(unit),
             Call::Distance(to) => border::distance(unit, *to),
             Call::Feasible(to) => border::feasible(unit, *to),
             Call::Successors(to) => border::successors(unit, *to),
+            Call::Link(to) => border::link(unit, *to),
+            Call::Awaits(to) => border::awaits(unit, *to),
         }
     }
 
@@ -79,11 +97,7 @@ impl Call {
             Ok(unit) => unit,
         };
         let answer = self.of_second(&mut unit, out);
-        let is_event = matches!(
-            self,
-            Call::Up(..) | Call::Cost(..) | Call::Down(..) | Call::Message(..)
-        );
-        if is_event && answer >= ACCEPTED {
+        if self.is_event() && answer >= ACCEPTED {
             table.copy_from_slice(&table::laid_out(&unit));
         }
         answer
@@ -93,16 +107,18 @@ impl Call {
 impl fmt::Display for Call {
     fn fmt(&self, f: &mut fmt::Formatter<'_>) -> fmt::Result {
         match self {
-            Call::Up(to, cost) => write!(f, "hub_up, to {to}, cost {cost}"),
-            Call::Cost(to, cost) => write!(f, "hub_cost, to {to}, cost {cost}"),
-            Call::Down(to) => write!(f, "hub_down, to {to}"),
+            Call::Up(to, cost) => write!(f, "puntclover_hub_up, to {to}, cost {cost}"),
+            Call::Cost(to, cost) => write!(f, "puntclover_hub_cost, to {to}, cost {cost}"),
+            Call::Down(to) => write!(f, "puntclover_hub_down, to {to}"),
             Call::Message(from, bytes) => {
-                write!(f, "hub_message, from {from}, bytes {bytes:02x?}")
+                write!(f, "puntclover_hub_message, from {from}, bytes {bytes:02x?}")
             }
-            Call::Active => write!(f, "hub_active"),
-            Call::Distance(to) => write!(f, "hub_distance, to {to}"),
-            Call::Feasible(to) => write!(f, "hub_feasible, to {to}"),
-            Call::Successors(to) => write!(f, "hub_successors, to {to}"),
+            Call::State => write!(f, "puntclover_hub_state"),
+            Call::Distance(to) => write!(f, "puntclover_hub_distance, to {to}"),
+            Call::Feasible(to) => write!(f, "puntclover_hub_feasible, to {to}"),
+            Call::Successors(to) => write!(f, "puntclover_hub_successors, to {to}"),
+            Call::Link(to) => write!(f, "puntclover_hub_link, to {to}"),
+            Call::Awaits(to) => write!(f, "puntclover_hub_awaits, to {to}"),
         }
     }
 }

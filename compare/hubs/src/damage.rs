@@ -6,6 +6,7 @@ use crate::call::Call;
 use crate::event;
 use crate::run::{Outcome, Run};
 use crate::table::{self, EACH};
+use second::table_bytes::{number_at, set_number_at};
 use second::unit::Unit;
 use shared::draw;
 use shared::rng::Rng;
@@ -60,11 +61,13 @@ fn call(run: &mut Run, part: &'static str, bytes: &[u8], unit: &Unit) -> Result<
 
 fn question(rng: &mut Rng, count: u32) -> Call {
     let to = rng.between(0, count + 1);
-    match rng.between(0, 3) {
-        0 => Call::Active,
+    match rng.between(0, 5) {
+        0 => Call::State,
         1 => Call::Distance(to),
         2 => Call::Feasible(to),
-        _ => Call::Successors(to),
+        3 => Call::Successors(to),
+        4 => Call::Link(to),
+        _ => Call::Awaits(to),
     }
 }
 
@@ -87,11 +90,11 @@ fn damaged(rng: &mut Rng, unit: &Unit, mut bytes: Vec<u8>) -> (&'static str, Vec
             let place = draw::word_place(rng, unit.count);
             let other = draw::word_place(rng, unit.count);
             let word = match rng.between(0, 2) {
-                0 => word_at(&bytes, other),
-                1 => word_at(&bytes, place).wrapping_add(*rng.pick(&[1, u32::MAX]).unwrap_or(&1)),
+                0 => number_at(&bytes, other),
+                1 => number_at(&bytes, place).wrapping_add(*rng.pick(&[1, u32::MAX]).unwrap_or(&1)),
                 _ => draw::odd_word(rng),
             };
-            set_word(&mut bytes, place, word);
+            set_number_at(&mut bytes, place, word);
             ("word", bytes)
         }
         7 => {
@@ -99,9 +102,9 @@ fn damaged(rng: &mut Rng, unit: &Unit, mut bytes: Vec<u8>) -> (&'static str, Vec
                 draw::word_place(rng, unit.count),
                 draw::word_place(rng, unit.count),
             );
-            let (at_a, at_b) = (word_at(&bytes, a), word_at(&bytes, b));
-            set_word(&mut bytes, a, at_b);
-            set_word(&mut bytes, b, at_a);
+            let (at_a, at_b) = (number_at(&bytes, a), number_at(&bytes, b));
+            set_number_at(&mut bytes, a, at_b);
+            set_number_at(&mut bytes, b, at_a);
             ("swap", bytes)
         }
         _ => ("rule", against_a_rule(rng, unit)),
@@ -126,15 +129,6 @@ fn other_length(rng: &mut Rng, mut bytes: Vec<u8>) -> Vec<u8> {
     };
     bytes.resize(length as usize, 0);
     bytes
-}
-
-fn word_at(bytes: &[u8], place: usize) -> u32 {
-    let word = &bytes[EACH * place..][..EACH];
-    word.iter().fold(0, |sum, &byte| sum << 8 | u32::from(byte))
-}
-
-fn set_word(bytes: &mut [u8], place: usize, word: u32) {
-    bytes[EACH * place..][..EACH].copy_from_slice(&word.to_be_bytes());
 }
 
 /// One field of the unit changed, with successors by F again, so that no rule

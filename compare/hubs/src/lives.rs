@@ -54,7 +54,7 @@ pub fn compare_fresh(run: &mut Run) -> Result<(), Difference> {
             if answer != wanted || ours != theirs {
                 let place = ours.iter().zip(&theirs).position(|(a, b)| a != b);
                 return Err(Difference(format!(
-                    "difference: hub_fresh, count {count}, me {me}, {length} bytes: product \
+                    "difference: puntclover_hub_fresh, count {count}, me {me}, {length} bytes: product \
                      answers {answer}, second {wanted}; first differing byte {place:?}\n"
                 )));
             }
@@ -120,9 +120,15 @@ fn ask(run: &mut Run, bytes: &[u8], unit: &mut Unit, about_all: bool) -> Result<
     } else {
         vec![run.rng.between(0, count)]
     };
-    let mut calls = vec![Call::Active];
+    let mut calls = vec![Call::State];
     for to in destinations {
-        calls.extend([Call::Distance(to), Call::Feasible(to), Call::Successors(to)]);
+        calls.extend([
+            Call::Distance(to),
+            Call::Feasible(to),
+            Call::Successors(to),
+            Call::Link(to),
+            Call::Awaits(to),
+        ]);
     }
     for call in calls {
         let mut product = Outcome {

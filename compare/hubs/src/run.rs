@@ -75,10 +75,14 @@ impl Run {
 
     /// The number of calls that were compared: events, and questions.
     pub fn totals(&self) -> (u64, u64) {
-        let is_question =
-            |kind: &str| matches!(kind, "active" | "distance" | "feasible" | "successors");
-        let events = self.tallies.total(|_, kind| !is_question(kind));
-        let questions = self.tallies.total(|_, kind| is_question(kind));
+        let is_event = |kind: &str| {
+            matches!(
+                kind,
+                "fresh" | "up" | "cost" | "down" | "message" | "deliver"
+            )
+        };
+        let events = self.tallies.total(|_, kind| is_event(kind));
+        let questions = self.tallies.total(|_, kind| !is_event(kind));
         (events, questions)
     }
 }

@@ -1,21 +1,18 @@
-//! A unit's table as bytes: "4 for each number, high byte first".
-//!
-//! The numbers are [`second::unit_table`]'s; this is only about their bytes.
+//! A unit's table as bytes. The numbers are [`second::unit_table`]'s.
 
 use second::refusal::{Refusal, UNFIT};
+use second::table_bytes;
 use second::unit::Unit;
-use second::unit_table::{self, WORDS};
+use second::unit_table;
 
-/// The bytes of a number.
-pub const EACH: usize = 4;
-
-/// The bytes of a table.
-pub const BYTES: usize = EACH * WORDS;
+pub use second::network_tables::UNIT_BYTES as BYTES;
+pub use second::table_bytes::EACH;
 
 /// The table of a unit of a legal network.
 pub fn laid_out(unit: &Unit) -> Vec<u8> {
-    let words = unit_table::laid_out(unit);
-    words.iter().flat_map(|word| word.to_be_bytes()).collect()
+    let mut table = vec![0; BYTES];
+    table_bytes::lay(&unit_table::laid_out(unit), &mut table);
+    table
 }
 
 /// The unit that a table holds, or 2.
@@ -23,14 +20,7 @@ pub fn read(table: &[u8]) -> Result<Unit, Refusal> {
     if table.len() != BYTES {
         return Err(UNFIT);
     }
-    let words: Vec<u32> = table.chunks_exact(EACH).map(word).collect();
-    unit_table::read(&words)
-}
-
-fn word(bytes: &[u8]) -> u32 {
-    bytes
-        .iter()
-        .fold(0, |sum, &byte| sum << 8 | u32::from(byte))
+    unit_table::read(&table_bytes::numbers(table))
 }
 
 /// What stands at a byte of a table, for a report.

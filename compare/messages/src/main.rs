@@ -149,8 +149,8 @@ fn read_short_tables(run: &mut Run) -> Result<(), Difference> {
     for _ in 0..RANDOM {
         let fields = sample::disturbed(&mut run.rng);
         let bytes = sample::laid_out(&fields);
-        let places = run.rng.between(0, TABLE as u32) as usize;
-        run.read("short tables", fields.count, &bytes, places)?;
+        let lent = run.rng.between(0, TABLE as u32) as usize;
+        run.read("short tables", fields.count, &bytes, lent)?;
     }
     Ok(())
 }
@@ -164,6 +164,10 @@ fn write_random(run: &mut Run) -> Result<(), Difference> {
     for _ in 0..RANDOM {
         let fields = sample::disturbed(&mut run.rng);
         run.write("disturbed fields", &fields)?;
+    }
+    for _ in 0..RANDOM {
+        let fields = sample::disturbed(&mut run.rng);
+        run.write_cut("no whole entries", &fields)?;
     }
     Ok(())
 }

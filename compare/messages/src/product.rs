@@ -1,36 +1,37 @@
-//! The product's exported functions, as `include/message.h` declares them.
+//! The product's exported functions, as `include/puntclover/message.h` declares them.
 //!
 //! A lent slice is a pointer and then a length. The functions read and write
 //! the slices only, keep no pointer and never unwind, so the wrappers are safe
 //! for all arguments.
 
 use second::limits::ENTRIES;
+use second::table_bytes::EACH;
 
-/// The places in a table of fields before the changes: kind, sender and number
+/// The numbers in a table of fields before the changes: kind, sender and number
 /// of entries.
 pub const LEADING: usize = 3;
 
-/// The places that the fields of a message take.
-pub const FIELDS: usize = LEADING + ENTRIES;
+/// The bytes that the fields of a message take.
+pub const FIELDS: usize = EACH * (LEADING + ENTRIES);
 
 extern "C" {
-    fn message_write(
+    fn puntclover_message_write(
         count: u32,
         kind: u32,
         sender: u32,
-        changes: *const u32,
-        changes_length: usize,
+        changes: *const u8,
+        changes_len: usize,
         frame: *mut u8,
-        frame_length: usize,
+        frame_len: usize,
         offset: usize,
     ) -> u32;
 
-    fn message_read(
+    fn puntclover_message_read(
         count: u32,
         bytes: *const u8,
-        bytes_length: usize,
-        fields: *mut u32,
-        fields_length: usize,
+        bytes_len: usize,
+        fields: *mut u8,
+        fields_len: usize,
     ) -> u32;
 }
 
@@ -40,14 +41,14 @@ pub fn write(
     count: u32,
     kind: u32,
     sender: u32,
-    changes: &[u32],
+    changes: &[u8],
     frame: &mut [u8],
     offset: usize,
 ) -> u32 {
     // SAFETY: each pointer and length is that of a slice, alive and, for the
     // frame, not shared during the call.
     unsafe {
-        message_write(
+        puntclover_message_write(
             count,
             kind,
             sender,
@@ -62,11 +63,11 @@ pub fn write(
 
 /// Takes one message from the bytes and lays its fields at the start of the
 /// table. Answers 100 plus the number of entries, or a refusal's number.
-pub fn read(count: u32, bytes: &[u8], fields: &mut [u32]) -> u32 {
+pub fn read(count: u32, bytes: &[u8], fields: &mut [u8]) -> u32 {
     // SAFETY: each pointer and length is that of a slice, alive and, for the
     // table, not shared during the call.
     unsafe {
-        message_read(
+        puntclover_message_read(
             count,
             bytes.as_ptr(),
             bytes.len(),

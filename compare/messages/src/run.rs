@@ -4,17 +4,18 @@
 
 use crate::product::{self, FIELDS, LEADING};
 use crate::sides::{
-    lay, product_reading, product_writing, second_reading, second_writing, Outcome,
+    lay_fields, product_reading, product_writing, second_reading, second_writing, Given, Outcome,
 };
 use second::limits::{message_length, ACCEPTED, MESSAGE_ROOM};
+use second::table_bytes::{number_at, EACH};
 use shared::rng::Rng;
 use shared::sample::{self, Fields};
 use shared::tally::{Difference, Tallies};
 use std::fmt::Write as _;
 
-/// The places of the table that a reader's fields are laid into, of which only
+/// The bytes of the table that a reader's fields are laid into, of which only
 /// a part may be lent.
-pub const TABLE: usize = FIELDS + 6;
+pub const TABLE: usize = FIELDS + 24;
 
 /// The bytes of the frame, of which only a part may be lent.
 const FRAME: usize = 128 + MESSAGE_ROOM;
@@ -39,25 +40,21 @@ impl Run {
         }
     }
 
-    /// One string, read by both into a table of which so many places are lent.
+    /// One string, read by both into a table of which so many bytes are lent.
     pub fn read(
         &mut self,
         kind: &'static str,
         count: u32,
         bytes: &[u8],
-        places: usize,
+        lent: usize,
     ) -> Result<(), Difference> {
-        let table: Vec<u32> = (0..TABLE).map(|_| self.rng.next_bits() as u32).collect();
-        let product = product_reading(count, bytes, table.clone(), places);
-        let second = second_reading(count, bytes, table, places);
+        let table = self.noise(TABLE);
+        let product = product_reading(count, bytes, table.clone(), lent);
+        let second = second_reading(count, bytes, table, lent);
         self.tallies.count("read", kind, second.answer);
         if product != second {
-            let input = format!("count {count}, {places} places\nbytes   {}", hex(bytes));
-            return Err(difference(
-                "a reading",
-                &input,
-                &[product, second].map(words),
-            ));
+            let input = format!("count {count}, {lent} lent\nbytes   {}", hex(bytes));
+            return Err(difference("a reading", &input, [product, second]));
         }
         if second.answer < ACCEPTED {
             return Ok(());
@@ -66,14 +63,15 @@ impl Run {
     }
 
     /// Accepted bytes, written again from the fields that the product read.
-    fn write_again(&mut self, count: u32, bytes: &[u8], table: &[u32]) -> Result<(), Difference> {
+    fn write_again(&mut self, count: u32, bytes: &[u8], table: &[u8]) -> Result<(), Difference> {
         self.round_trips += 1;
         let offset = self.rng.between(0, 9) as usize;
         let mut held = vec![170; offset + bytes.len() + 3];
         let mut frame = held.clone();
         held[offset..offset + bytes.len()].copy_from_slice(bytes);
-        let changes = &table[LEADING..LEADING + table[2] as usize];
-        let answer = product::write(count, table[0], table[1], changes, &mut frame, offset);
+        let [kind, sender, number] = [0, 1, 2].map(|place| number_at(table, place));
+        let changes = &table[EACH * LEADING..][..EACH * number as usize];
+        let answer = product::write(count, kind, sender, changes, &mut frame, offset);
         let product = Outcome {
             answer,
             held: frame,
@@ -86,34 +84,55 @@ impl Run {
             return Ok(());
         }
         let input = format!("count {count}, offset {offset}\nbytes   {}", hex(bytes));
-        Err(difference(
-            "bytes written again",
-            &input,
-            &[product, wanted].map(octets),
-        ))
+        Err(difference("bytes written again", &input, [product, wanted]))
     }
 
     /// One message, written by both into a frame of which a part is lent.
     pub fn write(&mut self, kind: &'static str, fields: &Fields) -> Result<(), Difference> {
-        let bytes = message_length(fields.changes.len());
-        let (length, offset) = sample::place(&mut self.rng, bytes);
-        let frame: Vec<u8> = (0..FRAME).map(|_| self.rng.next_bits() as u8).collect();
-        let product = product_writing(fields, frame.clone(), length, offset);
-        let second = second_writing(fields, frame, length, offset);
-        self.tallies.count("written", kind, second.answer);
-        if product != second {
-            let input = format!("frame of {length}, offset {offset}\n{fields:08x?}");
-            return Err(difference(
-                "a writing",
-                &input,
-                &[product, second].map(octets),
-            ));
-        }
-        if second.answer < ACCEPTED {
+        let given = Given::of(fields);
+        let Some((offset, product)) = self.written(kind, &given)? else {
             return Ok(());
-        }
+        };
         let bytes = (product.answer - ACCEPTED) as usize;
         self.read_back(fields, &product.held[offset..offset + bytes])
+    }
+
+    /// The same with changes that are some bytes too many or too few, so that
+    /// they are no whole entries.
+    pub fn write_cut(&mut self, kind: &'static str, fields: &Fields) -> Result<(), Difference> {
+        let mut given = Given::of(fields);
+        let more = self.rng.between(1, EACH as u32 - 1) as usize;
+        if self.rng.chance(50) && !given.changes.is_empty() {
+            given.changes.truncate(given.changes.len() - more);
+        } else {
+            given.changes.extend(self.noise(more));
+        }
+        self.written(kind, &given).map(|_| ())
+    }
+
+    /// What the product made of a writing on which both agree, with the offset;
+    /// nothing if it is refused.
+    fn written(
+        &mut self,
+        kind: &'static str,
+        given: &Given,
+    ) -> Result<Option<(usize, Outcome)>, Difference> {
+        let bytes = message_length(given.changes.len() / EACH);
+        let (length, offset) = sample::place(&mut self.rng, bytes);
+        let frame = self.noise(FRAME);
+        let product = product_writing(given, frame.clone(), length, offset);
+        let second = second_writing(given, frame, length, offset);
+        self.tallies.count("written", kind, second.answer);
+        if product != second {
+            let input = format!("frame of {length}, offset {offset}\n{given:02x?}");
+            return Err(difference("a writing", &input, [product, second]));
+        }
+        Ok((second.answer >= ACCEPTED).then_some((offset, product)))
+    }
+
+    /// Random bytes, so that a byte that stays is known.
+    fn noise(&mut self, length: usize) -> Vec<u8> {
+        (0..length).map(|_| self.rng.next_bits() as u8).collect()
     }
 
     /// Accepted fields, read back by the product from the bytes that it wrote.
@@ -121,7 +140,7 @@ impl Run {
         self.round_trips += 1;
         let product = product_reading(fields.count, bytes, vec![0; FIELDS], FIELDS);
         let mut held = vec![0; FIELDS];
-        lay(&mut held, fields.kind, fields.sender, &fields.changes);
+        lay_fields(&mut held, fields.kind, fields.sender, &fields.changes);
         let wanted = Outcome {
             answer: ACCEPTED + fields.changes.len() as u32,
             held,
@@ -130,26 +149,15 @@ impl Run {
             return Ok(());
         }
         let input = format!("bytes   {}\n{fields:08x?}", hex(bytes));
-        Err(difference(
-            "fields read back",
-            &input,
-            &[product, wanted].map(words),
-        ))
+        Err(difference("fields read back", &input, [product, wanted]))
     }
 }
 
-fn difference(what: &str, input: &str, [product, second]: &[String; 2]) -> Difference {
+fn difference(what: &str, input: &str, sides: [Outcome; 2]) -> Difference {
+    let [product, second] = sides.map(|it| format!("answers {}, {}", it.answer, hex(&it.held)));
     Difference(format!(
         "difference in {what}: {input}\nproduct {product}\nsecond  {second}\n"
     ))
-}
-
-fn words(outcome: Outcome<u32>) -> String {
-    format!("answers {}, table {:08x?}", outcome.answer, outcome.held)
-}
-
-fn octets(outcome: Outcome<u8>) -> String {
-    format!("answers {}, frame {}", outcome.answer, hex(&outcome.held))
 }
 
 fn hex(bytes: &[u8]) -> String {

@@ -5,7 +5,7 @@
 use crate::product::{ARRIVED, CIRCLING, STRANDED};
 use second::limits::ACCEPTED;
 use second::network::Network;
-use second::network_tables::{Tables, BYTES, WORDS};
+use second::network_tables::{Tables, QUEUES_BYTES, UNITS_BYTES};
 use second::refusal::{legal_count, legal_unit, Refusal, UNFIT};
 use second::tracer::Ending;
 use second::tree::Distance;
@@ -13,10 +13,10 @@ use second::unit_table::{set_number, UNREACHABLE};
 
 /// A fresh network in lent slices. Refused with 1, then with 2 for their
 /// lengths, "all that is tested for the fresh network".
-pub fn fresh(count: u32, words: &mut [u32], queues: &mut [u8]) -> u32 {
+pub fn fresh(count: u32, units: &mut [u8], queues: &mut [u8]) -> u32 {
     let fresh = || {
         legal_count(count)?;
-        if words.len() != WORDS || queues.len() != BYTES {
+        if units.len() != UNITS_BYTES || queues.len() != QUEUES_BYTES {
             return Err(UNFIT);
         }
         Network::fresh(count)
@@ -25,7 +25,7 @@ pub fn fresh(count: u32, words: &mut [u32], queues: &mut [u8]) -> u32 {
         Err(refusal) => refusal,
         Ok(network) => {
             let tables = Tables::of(&network);
-            words.copy_from_slice(&tables.words);
+            units.copy_from_slice(&tables.units);
             queues.copy_from_slice(&tables.queues);
             ACCEPTED
         }
@@ -68,6 +68,22 @@ fn distance_answer(distance: Result<Distance, Refusal>) -> u32 {
 pub fn successors(network: &Network, i: u32, j: u32) -> u32 {
     let set = network.successors(i, j);
     set.map_or_else(|refusal| refusal, |set| ACCEPTED + set_number(set))
+}
+
+/// The cost of the link from a unit to another, 0 where it is down. Refused
+/// with 3.
+pub fn link(network: &Network, i: u32, j: u32) -> u32 {
+    let cost = network.link(i, j);
+    cost.map_or_else(
+        |refusal| refusal,
+        |cost| ACCEPTED + cost.map_or(0, u32::from),
+    )
+}
+
+/// Whether a unit awaits an acknowledgment of another. Refused with 3.
+pub fn awaits(network: &Network, i: u32, j: u32) -> u32 {
+    let awaits = network.awaits(i, j);
+    awaits.map_or_else(|refusal| refusal, |awaits| ACCEPTED + u32::from(awaits))
 }
 
 /// A trace. Refused with 3, 7.

@@ -29,6 +29,10 @@ pub enum Call {
     Feasible(u32, u32),
     /// The successors of a unit for a destination.
     Successors(u32, u32),
+    /// The cost of the link from a unit to another.
+    Link(u32, u32),
+    /// Whether a unit awaits an acknowledgment of another.
+    Awaits(u32, u32),
     /// A trace.
     Trace(Trace),
 }
@@ -66,6 +70,8 @@ impl Call {
             Call::Distance(..) => "distance",
             Call::Feasible(..) => "feasible",
             Call::Successors(..) => "successors",
+            Call::Link(..) => "link",
+            Call::Awaits(..) => "awaits",
             Call::Trace(_) => match answer {
                 ARRIVED..STRANDED => "trace arrived",
                 STRANDED..CIRCLING => "trace stranded",
@@ -86,6 +92,8 @@ impl Call {
             Call::Distance(i, j) => product::distance(tables, i, j),
             Call::Feasible(i, j) => product::feasible(tables, i, j),
             Call::Successors(i, j) => product::successors(tables, i, j),
+            Call::Link(i, j) => product::link(tables, i, j),
+            Call::Awaits(i, j) => product::awaits(tables, i, j),
             Call::Trace(ref it) => {
                 let path = &mut path[..it.places];
                 product::trace(tables, it.start, it.destination, &it.choices, path)
@@ -104,6 +112,8 @@ impl Call {
             Call::Distance(i, j) => border::distance(network, i, j),
             Call::Feasible(i, j) => border::feasible(network, i, j),
             Call::Successors(i, j) => border::successors(network, i, j),
+            Call::Link(i, j) => border::link(network, i, j),
+            Call::Awaits(i, j) => border::awaits(network, i, j),
             Call::Trace(ref it) => {
                 let path = &mut path[..it.places];
                 border::trace(network, it.start, it.destination, &it.choices, path)
@@ -129,14 +139,18 @@ impl Call {
 impl fmt::Display for Call {
     fn fmt(&self, f: &mut fmt::Formatter<'_>) -> fmt::Result {
         match self {
-            Call::Up(a, b, of_a, of_b) => write!(f, "network_up({a}, {b}, {of_a}, {of_b})"),
-            Call::Cost(a, b, cost) => write!(f, "network_cost({a}, {b}, {cost})"),
-            Call::Down(a, b) => write!(f, "network_down({a}, {b})"),
-            Call::Deliver(a, b) => write!(f, "network_deliver({a}, {b})"),
-            Call::State(i) => write!(f, "network_state({i})"),
-            Call::Distance(i, j) => write!(f, "network_distance({i}, {j})"),
-            Call::Feasible(i, j) => write!(f, "network_feasible({i}, {j})"),
-            Call::Successors(i, j) => write!(f, "network_successors({i}, {j})"),
+            Call::Up(a, b, of_a, of_b) => {
+                write!(f, "puntclover_network_up({a}, {b}, {of_a}, {of_b})")
+            }
+            Call::Cost(a, b, cost) => write!(f, "puntclover_network_cost({a}, {b}, {cost})"),
+            Call::Down(a, b) => write!(f, "puntclover_network_down({a}, {b})"),
+            Call::Deliver(a, b) => write!(f, "puntclover_network_deliver({a}, {b})"),
+            Call::State(i) => write!(f, "puntclover_network_state({i})"),
+            Call::Distance(i, j) => write!(f, "puntclover_network_distance({i}, {j})"),
+            Call::Feasible(i, j) => write!(f, "puntclover_network_feasible({i}, {j})"),
+            Call::Successors(i, j) => write!(f, "puntclover_network_successors({i}, {j})"),
+            Call::Link(i, j) => write!(f, "puntclover_network_link({i}, {j})"),
+            Call::Awaits(i, j) => write!(f, "puntclover_network_awaits({i}, {j})"),
             Call::Trace(it) => {
                 let Trace {
                     start,
@@ -146,7 +160,7 @@ impl fmt::Display for Call {
                 } = it;
                 write!(
                     f,
-                    "network_trace({start}, {destination}, choices {choices:?}, {places} places)"
+                    "puntclover_network_trace({start}, {destination}, choices {choices:?}, {places} places)"
                 )
             }
         }

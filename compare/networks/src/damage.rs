@@ -26,9 +26,10 @@ type Damage = fn(&mut Rng, &Network) -> Option<Tables>;
 
 /// All kinds of damage. Those on networks rather than on tables give successors
 /// by F again, so that no rule but the one named is broken.
-pub const DAMAGES: [(&str, Damage); 24] = [
+pub const DAMAGES: [(&str, Damage); 26] = [
     ("nothing", |_, network| Some(Tables::of(network))),
     ("bits of numbers", numbers::bits_of_numbers),
+    ("byte of numbers", numbers::byte_of_numbers),
     ("a number", numbers::number),
     ("numbers exchanged", numbers::numbers_exchanged),
     ("count", numbers::count),
@@ -50,6 +51,7 @@ pub const DAMAGES: [(&str, Damage); 24] = [
     ("free place", queues::free_place),
     ("message, no link", queues::message_without_link),
     ("byte of queues", queues::byte_of_queues),
+    ("units' length", queues::units_length),
     ("lengths", queues::lengths),
 ];
 

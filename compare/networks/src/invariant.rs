@@ -7,7 +7,7 @@ use crate::product;
 use crate::view::View;
 use crate::walk::{self, Figures};
 use second::limits::ACCEPTED;
-use second::network_tables::{Tables, BYTES, WORDS};
+use second::network_tables::Tables;
 use second::refusal::UNFIT;
 use shared::rng::Rng;
 
@@ -45,11 +45,8 @@ pub fn check(seed: u64, lives: u32, events: u32) -> Result<Seen, String> {
 fn live(rng: &mut Rng, number: u32, events: u32, seen: &mut Seen) -> Result<(), String> {
     let (count, shape) = life::count_and_shape(number);
     let mut life = Life::draw(rng, count, shape, ODD);
-    let mut tables = Tables {
-        words: vec![0; WORDS],
-        queues: vec![0; BYTES],
-    };
-    if product::fresh(count, &mut tables.words, &mut tables.queues) != ACCEPTED {
+    let mut tables = Tables::zeros();
+    if product::fresh(count, &mut tables.units, &mut tables.queues) != ACCEPTED {
         return Err(format!("a fresh network of {count} units is refused"));
     }
     walk::walk(&tables, &mut seen.walked)?;

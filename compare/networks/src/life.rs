@@ -231,11 +231,13 @@ pub fn odd_call(rng: &mut Rng, view: &View) -> Call {
 /// A question about any two units, sometimes none.
 pub fn question(rng: &mut Rng, count: u32) -> Call {
     let (i, j) = (any_unit(rng, count), any_unit(rng, count));
-    match rng.between(0, 3) {
+    match rng.between(0, 5) {
         0 => Call::State(i),
         1 => Call::Distance(i, j),
         2 => Call::Feasible(i, j),
-        _ => Call::Successors(i, j),
+        3 => Call::Successors(i, j),
+        4 => Call::Link(i, j),
+        _ => Call::Awaits(i, j),
     }
 }
 

@@ -8,7 +8,8 @@ use crate::view::View;
 use crate::{border, product};
 use second::limits::ACCEPTED;
 use second::network::Network;
-use second::network_tables::{Tables, BYTES, WORDS};
+use second::network_tables::{Tables, QUEUES_BYTES, UNITS_BYTES};
+use second::table_bytes::EACH;
 use shared::draw::{FEWEST, MOST};
 use shared::tally::Difference;
 
@@ -17,7 +18,7 @@ const PART: &str = "life";
 /// Calls with bad numbers, in so many of 100 cases.
 const ODD: u32 = 8;
 
-/// So many places more than the tables have, before and after what is lent.
+/// So many bytes more than the tables have, before and after what is lent.
 const AROUND: usize = 8;
 
 /// Fresh networks for legal and illegal counts, in slices of any length. What
@@ -26,63 +27,55 @@ pub fn compare_fresh(run: &mut Run) -> Result<(), Difference> {
     // Some that are legal once cut to 8 or 16 bits.
     let far = [255, 256, 256 + FEWEST, (1 << 16) + FEWEST, u32::MAX];
     let counts = (0..MOST + 4).chain(far);
-    let words = [0, 1, WORDS - 1, WORDS, WORDS + 1];
-    let bytes = [0, 1, BYTES - 1, BYTES, BYTES + 1];
     for count in counts {
-        for (words, bytes) in words
-            .iter()
-            .flat_map(|&w| bytes.iter().map(move |&b| (w, b)))
-        {
-            fresh(run, count, words, bytes)?;
+        for units in lengths(UNITS_BYTES) {
+            for queues in lengths(QUEUES_BYTES) {
+                fresh(run, count, units, queues)?;
+            }
         }
     }
     Ok(())
 }
 
+/// Lengths around the fixed one.
+fn lengths(whole: usize) -> [usize; 7] {
+    [
+        0,
+        1,
+        whole - EACH,
+        whole - 1,
+        whole,
+        whole + 1,
+        whole + EACH,
+    ]
+}
+
 /// One fresh network in slices of these lengths that held anything before.
-fn fresh(run: &mut Run, count: u32, words: usize, bytes: usize) -> Result<(), Difference> {
-    let some = run.rng.next_bits();
+fn fresh(run: &mut Run, count: u32, units: usize, queues: usize) -> Result<(), Difference> {
+    let some = run.rng.next_bits() as usize;
+    let noise = |whole: usize| (0..whole + 2 * AROUND).map(|place| (place ^ some) as u8);
     let mut ours = Tables {
-        words: (0..)
-            .map(|place| place ^ some as u32)
-            .take(WORDS + 2 * AROUND)
-            .collect(),
-        queues: (0..)
-            .map(|place: u32| (place ^ some as u32) as u8)
-            .take(BYTES + 2 * AROUND)
-            .collect(),
+        units: noise(UNITS_BYTES).collect(),
+        queues: noise(QUEUES_BYTES).collect(),
     };
     let mut theirs = ours.clone();
-    let (words, bytes) = (AROUND..AROUND + words, AROUND..AROUND + bytes);
-    let answer = product::fresh(
-        count,
-        &mut ours.words[words.clone()],
-        &mut ours.queues[bytes.clone()],
-    );
-    let wanted = border::fresh(
-        count,
-        &mut theirs.words[words.clone()],
-        &mut theirs.queues[bytes.clone()],
-    );
+    let lent = [units, queues].map(|length| AROUND..AROUND + length);
+    let [units, queues] = lent.clone();
+    let answer = product::fresh(count, &mut ours.units[units], &mut ours.queues[queues]);
+    let [units, queues] = lent.clone();
+    let wanted = border::fresh(count, &mut theirs.units[units], &mut theirs.queues[queues]);
     run.count(PART, "fresh", wanted);
     if answer == wanted && ours == theirs {
         return Ok(());
     }
-    let word = ours
-        .words
-        .iter()
-        .zip(&theirs.words)
-        .position(|(a, b)| a != b);
-    let byte = ours
-        .queues
-        .iter()
-        .zip(&theirs.queues)
-        .position(|(a, b)| a != b);
-    let (words, bytes) = (words.len(), bytes.len());
+    let differing = |a: &[u8], b: &[u8]| a.iter().zip(b).position(|(a, b)| a != b);
+    let unit = differing(&ours.units, &theirs.units);
+    let queue = differing(&ours.queues, &theirs.queues);
+    let [units, queues] = lent.map(|it| it.len());
     Err(run.difference(format!(
-        "{PART}: network_fresh({count}) in {words} numbers and {bytes} bytes: product answers \
-         {answer}, second {wanted}; first differing number {word:?}, byte {byte:?}, where the \
-         slices begin at {AROUND}"
+        "{PART}: puntclover_network_fresh({count}) in {units} and {queues} bytes: product answers {answer}, \
+         second {wanted}; first differing byte of the units {unit:?}, of the queues {queue:?}, \
+         where the slices begin at {AROUND}"
     )))
 }
 
@@ -99,11 +92,8 @@ pub fn compare(run: &mut Run, lives: u32, events: u32, asked_every: u32) -> Resu
 fn live(run: &mut Run, number: u32, events: u32, is_asked: bool) -> Result<(), Difference> {
     let (count, shape) = life::count_and_shape(number);
     let mut life = Life::draw(&mut run.rng, count, shape, ODD);
-    let mut tables = Tables {
-        words: vec![0; WORDS],
-        queues: vec![0; BYTES],
-    };
-    let answer = product::fresh(count, &mut tables.words, &mut tables.queues);
+    let mut tables = Tables::zeros();
+    let answer = product::fresh(count, &mut tables.units, &mut tables.queues);
     run.count(PART, "fresh", answer);
     let fresh = Network::fresh(count).ok();
     let is_alike = |it: &Network| answer == ACCEPTED && tables == Tables::of(it);
@@ -143,6 +133,8 @@ fn ask_all(run: &mut Run, tables: &mut Tables, network: &mut Network) -> Result<
                 Call::Distance(i, j),
                 Call::Feasible(i, j),
                 Call::Successors(i, j),
+                Call::Link(i, j),
+                Call::Awaits(i, j),
             ] {
                 run.step(PART, &call, tables, network)?;
             }

@@ -1,4 +1,5 @@
-//! The product's exported functions.
+//! The product's exported functions, as `include/puntclover/network.h` declares
+//! them.
 //!
 //! A lent slice is a pointer and then a length. The functions read and write
 //! the slices only, keep no pointer and never unwind, so the wrappers are safe
@@ -19,8 +20,8 @@ macro_rules! calls {
     ($($name:ident($($number:ident),*);)*) => {
         extern "C" {
             $(fn $name(
-                words: *mut u32,
-                words_len: usize,
+                units: *mut u8,
+                units_len: usize,
                 queues: *mut u8,
                 queues_len: usize,
                 $($number: u32),*
@@ -34,8 +35,8 @@ macro_rules! questions {
     ($($name:ident($($number:ident),*);)*) => {
         extern "C" {
             $(fn $name(
-                words: *const u32,
-                words_len: usize,
+                units: *const u8,
+                units_len: usize,
                 queues: *const u8,
                 queues_len: usize,
                 $($number: u32),*
@@ -45,30 +46,32 @@ macro_rules! questions {
 }
 
 calls! {
-    network_up(a, b, cost_of_a, cost_of_b);
-    network_cost(a, b, new_cost);
-    network_down(a, b);
-    network_deliver(a, b);
+    puntclover_network_up(a, b, cost_of_a, cost_of_b);
+    puntclover_network_cost(a, b, cost);
+    puntclover_network_down(a, b);
+    puntclover_network_deliver(a, b);
 }
 
 questions! {
-    network_state(i);
-    network_distance(i, j);
-    network_feasible(i, j);
-    network_successors(i, j);
+    puntclover_network_state(i);
+    puntclover_network_distance(i, j);
+    puntclover_network_feasible(i, j);
+    puntclover_network_successors(i, j);
+    puntclover_network_link(i, j);
+    puntclover_network_awaits(i, j);
 }
 
 extern "C" {
-    fn network_fresh(
+    fn puntclover_network_fresh(
         count: u32,
-        words: *mut u32,
-        words_len: usize,
+        units: *mut u8,
+        units_len: usize,
         queues: *mut u8,
         queues_len: usize,
     ) -> u32;
-    fn network_trace(
-        words: *const u32,
-        words_len: usize,
+    fn puntclover_network_trace(
+        units: *const u8,
+        units_len: usize,
         queues: *const u8,
         queues_len: usize,
         start: u32,
@@ -86,10 +89,10 @@ extern "C" {
 /// A call's function with the tables lent for change, then its numbers.
 macro_rules! changing {
     ($name:ident, $tables:expr $(, $number:expr)*) => {{
-        let (words, queues) = (&mut $tables.words, &mut $tables.queues);
-        let (words_len, queues_len) = (words.len(), queues.len());
+        let (units, queues) = (&mut $tables.units, &mut $tables.queues);
+        let (units_len, queues_len) = (units.len(), queues.len());
         unsafe {
-            $name(words.as_mut_ptr(), words_len, queues.as_mut_ptr(), queues_len $(, $number)*)
+            $name(units.as_mut_ptr(), units_len, queues.as_mut_ptr(), queues_len $(, $number)*)
         }
     }};
 }
@@ -97,21 +100,21 @@ macro_rules! changing {
 /// A question's function with the tables lent, then its numbers.
 macro_rules! asking {
     ($name:ident, $tables:expr $(, $number:expr)*) => {{
-        let (words, queues) = (&$tables.words, &$tables.queues);
+        let (units, queues) = (&$tables.units, &$tables.queues);
         unsafe {
-            $name(words.as_ptr(), words.len(), queues.as_ptr(), queues.len() $(, $number)*)
+            $name(units.as_ptr(), units.len(), queues.as_ptr(), queues.len() $(, $number)*)
         }
     }};
 }
 
 /// A fresh network.
-pub fn fresh(count: u32, words: &mut [u32], queues: &mut [u8]) -> u32 {
-    let (words_len, queues_len) = (words.len(), queues.len());
+pub fn fresh(count: u32, units: &mut [u8], queues: &mut [u8]) -> u32 {
+    let (units_len, queues_len) = (units.len(), queues.len());
     unsafe {
-        network_fresh(
+        puntclover_network_fresh(
             count,
-            words.as_mut_ptr(),
-            words_len,
+            units.as_mut_ptr(),
+            units_len,
             queues.as_mut_ptr(),
             queues_len,
         )
@@ -120,42 +123,52 @@ pub fn fresh(count: u32, words: &mut [u32], queues: &mut [u8]) -> u32 {
 
 /// The link between a and b comes up.
 pub fn up(tables: &mut Tables, a: u32, b: u32, cost_of_a: u32, cost_of_b: u32) -> u32 {
-    changing!(network_up, tables, a, b, cost_of_a, cost_of_b)
+    changing!(puntclover_network_up, tables, a, b, cost_of_a, cost_of_b)
 }
 
 /// The cost from a to b changes.
 pub fn cost(tables: &mut Tables, a: u32, b: u32, new_cost: u32) -> u32 {
-    changing!(network_cost, tables, a, b, new_cost)
+    changing!(puntclover_network_cost, tables, a, b, new_cost)
 }
 
 /// The link between a and b goes down.
 pub fn down(tables: &mut Tables, a: u32, b: u32) -> u32 {
-    changing!(network_down, tables, a, b)
+    changing!(puntclover_network_down, tables, a, b)
 }
 
 /// The first message from a reaches b.
 pub fn deliver(tables: &mut Tables, a: u32, b: u32) -> u32 {
-    changing!(network_deliver, tables, a, b)
+    changing!(puntclover_network_deliver, tables, a, b)
 }
 
 /// Whether a unit is ACTIVE.
 pub fn state(tables: &Tables, i: u32) -> u32 {
-    asking!(network_state, tables, i)
+    asking!(puntclover_network_state, tables, i)
 }
 
 /// The distance of a destination at a unit.
 pub fn distance(tables: &Tables, i: u32, j: u32) -> u32 {
-    asking!(network_distance, tables, i, j)
+    asking!(puntclover_network_distance, tables, i, j)
 }
 
 /// The feasible distance of a destination at a unit.
 pub fn feasible(tables: &Tables, i: u32, j: u32) -> u32 {
-    asking!(network_feasible, tables, i, j)
+    asking!(puntclover_network_feasible, tables, i, j)
 }
 
 /// The successors of a unit for a destination.
 pub fn successors(tables: &Tables, i: u32, j: u32) -> u32 {
-    asking!(network_successors, tables, i, j)
+    asking!(puntclover_network_successors, tables, i, j)
+}
+
+/// The cost of the link from a unit to another.
+pub fn link(tables: &Tables, i: u32, j: u32) -> u32 {
+    asking!(puntclover_network_link, tables, i, j)
+}
+
+/// Whether a unit awaits an acknowledgment of another.
+pub fn awaits(tables: &Tables, i: u32, j: u32) -> u32 {
+    asking!(puntclover_network_awaits, tables, i, j)
 }
 
 /// A trace from a start to a destination.
@@ -168,7 +181,7 @@ pub fn trace(
 ) -> u32 {
     let room = path.len();
     asking!(
-        network_trace,
+        puntclover_network_trace,
         tables,
         start,
         destination,

@@ -2,8 +2,8 @@
 
 use crate::call::{Call, PATH};
 use second::network::Network;
-use second::network_tables::{self, Tables};
-use second::unit_table;
+use second::network_tables::{self, Tables, UNIT_BYTES};
+use second::table_bytes::{numbers, EACH};
 use shared::rng::Rng;
 use shared::tally::{Difference, Tallies};
 use std::fmt::{Display, LowerHex, Write as _};
@@ -131,10 +131,10 @@ impl Run {
         let (ours, theirs) = (product.answer, second.answer);
         let _ = writeln!(text, "product answers {ours}, second {theirs}");
         let (ours, theirs) = (product.tables, second.tables);
-        let word_name = network_tables::word_name;
-        let byte_name = network_tables::byte_name;
-        tell(&mut text, word_name, &ours.words, &theirs.words);
-        tell(&mut text, byte_name, &ours.queues, &theirs.queues);
+        let unit_name = |byte| network_tables::word_name(byte / EACH);
+        let queue_name = network_tables::byte_name;
+        tell(&mut text, unit_name, &ours.units, &theirs.units);
+        tell(&mut text, queue_name, &ours.queues, &theirs.queues);
         let path_name = |byte| format!("path, byte {byte}");
         tell(&mut text, path_name, &product.path, &second.path);
         show(&mut text, before);
@@ -143,15 +143,10 @@ impl Run {
 }
 
 /// The first few places where two sides differ.
-fn tell<T: PartialEq + LowerHex>(
-    text: &mut String,
-    name: impl Fn(usize) -> String,
-    product: &[T],
-    second: &[T],
-) {
+fn tell(text: &mut String, name: impl Fn(usize) -> String, product: &[u8], second: &[u8]) {
     if product.len() != second.len() {
         let (ours, theirs) = (product.len(), second.len());
-        let _ = writeln!(text, "{ours} places, second {theirs} places");
+        let _ = writeln!(text, "{ours} bytes, second {theirs} bytes");
     }
     let both = product.iter().zip(second).enumerate();
     let differing = both.filter(|(_, (ours, theirs))| ours != theirs);
@@ -164,10 +159,10 @@ fn tell<T: PartialEq + LowerHex>(
 /// Tables by their numbers and bytes other than 0, in hexadecimal: of each unit
 /// the index in its own table, of the queues the index among all.
 fn show(text: &mut String, tables: &Tables) {
-    let (words, bytes) = (tables.words.len(), tables.queues.len());
-    let _ = writeln!(text, "before, {words} numbers and {bytes} bytes:");
-    for (unit, table) in tables.words.chunks(unit_table::WORDS).enumerate() {
-        show_places(text, &format!("unit {unit}"), table);
+    let (units, queues) = (tables.units.len(), tables.queues.len());
+    let _ = writeln!(text, "before, {units} bytes and {queues} bytes:");
+    for (unit, table) in tables.units.chunks(UNIT_BYTES).enumerate() {
+        show_places(text, &format!("unit {unit}"), &numbers(table));
     }
     show_places(text, "queues", &tables.queues);
 }

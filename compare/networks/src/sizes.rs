@@ -66,7 +66,7 @@ pub fn is_question(part: &str, kind: &str) -> bool {
 
 /// The refusals that each kind of call has to meet in lives from fresh, and in
 /// networks that no life reaches.
-const REFUSALS: [(&str, &[u32], &[u32]); 10] = [
+const REFUSALS: [(&str, &[u32], &[u32]); 12] = [
     ("fresh", &[1, 2], &[]),
     ("up", &[3, 4, 5], &[13]),
     ("cost", &[3, 4, 6], &[13]),
@@ -76,6 +76,8 @@ const REFUSALS: [(&str, &[u32], &[u32]); 10] = [
     ("distance", &[3], &[]),
     ("feasible", &[3], &[]),
     ("successors", &[3], &[]),
+    ("link", &[3], &[]),
+    ("awaits", &[3], &[]),
     ("trace", &[3, 7], &[]),
 ];
 

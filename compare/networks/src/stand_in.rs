@@ -83,15 +83,15 @@ unsafe fn lent_mut<'a, T>(first: *mut T, length: usize) -> &'a mut [T] {
 }
 
 /// An event on lent tables.
-fn event(call: Call, words: &mut [u32], queues: &mut [u8]) -> u32 {
+fn event(call: Call, units: &mut [u8], queues: &mut [u8]) -> u32 {
     let mut tables = Tables {
-        words: words.to_vec(),
+        units: units.to_vec(),
         queues: queues.to_vec(),
     };
     let answer = answer(call, &mut tables, &mut []);
     // A fault may accept slices of another length.
-    for (place, word) in words.iter_mut().zip(&tables.words) {
-        *place = *word;
+    for (place, byte) in units.iter_mut().zip(&tables.units) {
+        *place = *byte;
     }
     for (place, byte) in queues.iter_mut().zip(&tables.queues) {
         *place = *byte;
@@ -100,9 +100,9 @@ fn event(call: Call, words: &mut [u32], queues: &mut [u8]) -> u32 {
 }
 
 /// A question about lent tables.
-fn question(call: Call, words: &[u32], queues: &[u8], path: &mut [u8]) -> u32 {
+fn question(call: Call, units: &[u8], queues: &[u8], path: &mut [u8]) -> u32 {
     let mut tables = Tables {
-        words: words.to_vec(),
+        units: units.to_vec(),
         queues: queues.to_vec(),
     };
     answer(call, &mut tables, path)
@@ -119,15 +119,15 @@ macro_rules! events {
             /// Each pointer and length is that of a slice, alive and not shared.
             #[no_mangle]
             pub unsafe extern "C" fn $name(
-                words: *mut u32,
-                words_len: usize,
+                units: *mut u8,
+                units_len: usize,
                 queues: *mut u8,
                 queues_len: usize,
                 $($number: u32),*
             ) -> u32 {
-                let (words, queues) =
-                    unsafe { (lent_mut(words, words_len), lent_mut(queues, queues_len)) };
-                event(Call::$call($($number),*), words, queues)
+                let (units, queues) =
+                    unsafe { (lent_mut(units, units_len), lent_mut(queues, queues_len)) };
+                event(Call::$call($($number),*), units, queues)
             }
         )*
     };
@@ -144,32 +144,34 @@ macro_rules! questions {
             /// Each pointer and length is that of a slice that is alive.
             #[no_mangle]
             pub unsafe extern "C" fn $name(
-                words: *const u32,
-                words_len: usize,
+                units: *const u8,
+                units_len: usize,
                 queues: *const u8,
                 queues_len: usize,
                 $($number: u32),*
             ) -> u32 {
-                let (words, queues) =
-                    unsafe { (lent(words, words_len), lent(queues, queues_len)) };
-                question(Call::$call($($number),*), words, queues, &mut [])
+                let (units, queues) =
+                    unsafe { (lent(units, units_len), lent(queues, queues_len)) };
+                question(Call::$call($($number),*), units, queues, &mut [])
             }
         )*
     };
 }
 
 events! {
-    network_up => Up(a, b, cost_of_a, cost_of_b);
-    network_cost => Cost(a, b, new_cost);
-    network_down => Down(a, b);
-    network_deliver => Deliver(a, b);
+    puntclover_network_up => Up(a, b, cost_of_a, cost_of_b);
+    puntclover_network_cost => Cost(a, b, cost);
+    puntclover_network_down => Down(a, b);
+    puntclover_network_deliver => Deliver(a, b);
 }
 
 questions! {
-    network_state => State(i);
-    network_distance => Distance(i, j);
-    network_feasible => Feasible(i, j);
-    network_successors => Successors(i, j);
+    puntclover_network_state => State(i);
+    puntclover_network_distance => Distance(i, j);
+    puntclover_network_feasible => Feasible(i, j);
+    puntclover_network_successors => Successors(i, j);
+    puntclover_network_link => Link(i, j);
+    puntclover_network_awaits => Awaits(i, j);
 }
 
 /// As the product's function.
@@ -178,17 +180,17 @@ questions! {
 ///
 /// Each pointer and length is that of a slice, alive and not shared.
 #[no_mangle]
-pub unsafe extern "C" fn network_fresh(
+pub unsafe extern "C" fn puntclover_network_fresh(
     count: u32,
-    words: *mut u32,
-    words_len: usize,
+    units: *mut u8,
+    units_len: usize,
     queues: *mut u8,
     queues_len: usize,
 ) -> u32 {
-    let (words, queues) = unsafe { (lent_mut(words, words_len), lent_mut(queues, queues_len)) };
-    let answer = border::fresh(count, words, queues);
+    let (units, queues) = unsafe { (lent_mut(units, units_len), lent_mut(queues, queues_len)) };
+    let answer = border::fresh(count, units, queues);
     if let (Some(Change::Fresh(spoil)), ACCEPTED) = (FAULT.get(), answer) {
-        spoil(words, queues);
+        spoil(units, queues);
     }
     answer
 }
@@ -200,9 +202,9 @@ pub unsafe extern "C" fn network_fresh(
 /// Each pointer and length is that of a slice that is alive, that of the path
 /// not shared.
 #[no_mangle]
-pub unsafe extern "C" fn network_trace(
-    words: *const u32,
-    words_len: usize,
+pub unsafe extern "C" fn puntclover_network_trace(
+    units: *const u8,
+    units_len: usize,
     queues: *const u8,
     queues_len: usize,
     start: u32,
@@ -212,7 +214,7 @@ pub unsafe extern "C" fn network_trace(
     path: *mut u8,
     path_len: usize,
 ) -> u32 {
-    let (words, queues) = unsafe { (lent(words, words_len), lent(queues, queues_len)) };
+    let (units, queues) = unsafe { (lent(units, units_len), lent(queues, queues_len)) };
     let (choices, path) = unsafe { (lent(choices, choices_len), lent_mut(path, path_len)) };
     let trace = Trace {
         start,
@@ -220,5 +222,5 @@ pub unsafe extern "C" fn network_trace(
         choices: choices.to_vec(),
         places: path.len(),
     };
-    question(Call::Trace(trace), words, queues, path)
+    question(Call::Trace(trace), units, queues, path)
 }

@@ -30,11 +30,11 @@ pub struct View {
 impl View {
     /// The view of fit tables.
     pub fn of(tables: &Tables) -> View {
-        let count = tables.words[COUNT];
+        let count = tables.number(COUNT);
         let pairs = (0..count).flat_map(|a| (0..count).map(move |b| (a, b)));
         let link = |(a, b): Pair| Link {
             ends: (a, b),
-            cost: tables.words[UNIT * a as usize + COSTS + b as usize],
+            cost: tables.number(UNIT * a as usize + COSTS + b as usize),
             is_busy: tables.queues[queue_at(a as u8, b as u8)] != 0,
         };
         let links = pairs.map(link).filter(|link| link.cost != 0).collect();

@@ -46,11 +46,11 @@ enum Mark {
 
 /// Walks all graphs of the tables; answers what is wrong with one of them.
 pub fn walk(tables: &Tables, figures: &mut Figures) -> Result<(), String> {
-    let count = tables.words[COUNT] as usize;
+    let count = tables.number(COUNT) as usize;
     for destination in 0..count {
         let number = |first: usize| {
             let place = move |unit: usize| UNIT * unit + first + destination;
-            (0..count).map(|unit| tables.words[place(unit)]).collect()
+            (0..count).map(|unit| tables.number(place(unit))).collect()
         };
         let graph = Graph {
             count,

@@ -1,7 +1,6 @@
 //! What the comparisons share.
 //!
-//! It links no archive of the product, so that each comparison asks for its own
-//! one alone.
+//! It doesn't link the product's archive, so that it is tested without it.
 //!
 //! * [`rng`]: numbers determined by a seed, from which all else is drawn.
 //! * [`sample`]: messages, legal and broken.

@@ -51,11 +51,13 @@ fn damage(rng: &mut Rng, count: u8, tables: &mut Tables) {
     if rng.chance(50) {
         let unit = rng.between(0, last) as usize;
         let place = UNIT * unit + rng.between(0, UNIT as u32 - 1) as usize;
-        tables.words[place] = match rng.between(0, 3) {
-            0 => tables.words[place] ^ 1 << rng.between(0, 31),
-            1 => tables.words[place].wrapping_add(1),
+        let number = tables.number(place);
+        let other = match rng.between(0, 3) {
+            0 => number ^ 1 << rng.between(0, 31),
+            1 => number.wrapping_add(1),
             _ => entry_number(rng.between(0, 3), rng.between(0, 3)),
         };
+        tables.set_number(place, other);
     } else {
         let (from, to) = (rng.between(0, last), rng.between(0, last));
         let place = queue_at(from as u8, to as u8) + rng.between(0, 15) as usize;

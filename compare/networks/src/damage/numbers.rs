@@ -4,6 +4,7 @@ use super::{any_unit, forget_link, some_gap, some_link};
 use second::limits::{GREATEST_DISTANCE, HIGHEST_COST, UNITS};
 use second::network::Network;
 use second::network_tables::Tables;
+use second::table_bytes::EACH;
 use second::tree::{Distance, UnitNumber};
 use second::unit::Unit;
 use second::unit_table::{self, entry_number, WORDS as UNIT};
@@ -19,7 +20,7 @@ fn word_at(unit: UnitNumber, place: usize) -> usize {
 /// The network's tables with one number set.
 fn with_word(network: &Network, place: usize, word: u32) -> Option<Tables> {
     let mut tables = Tables::of(network);
-    tables.words[place] = word;
+    tables.set_number(place, word);
     Some(tables)
 }
 
@@ -42,11 +43,31 @@ fn any_word(rng: &mut Rng, network: &Network) -> usize {
     word_at(any_unit(rng, network), place)
 }
 
+/// Exchanges the numbers at two indices.
+fn exchange(tables: &mut Tables, a: usize, b: usize) {
+    let (at_a, at_b) = (tables.number(a), tables.number(b));
+    tables.set_number(a, at_b);
+    tables.set_number(b, at_a);
+}
+
+/// Any byte of a number set to anything, so that a byte in the wrong order or
+/// one that is not looked at is found.
+pub fn byte_of_numbers(rng: &mut Rng, network: &Network) -> Option<Tables> {
+    let mut tables = Tables::of(network);
+    let byte = EACH * any_word(rng, network) + rng.between(0, EACH as u32 - 1) as usize;
+    tables.units[byte] = match rng.between(0, 2) {
+        0 => 1,
+        1 => tables.units[byte].wrapping_add(1),
+        _ => rng.next_bits() as u8,
+    };
+    Some(tables)
+}
+
 pub fn bits_of_numbers(rng: &mut Rng, network: &Network) -> Option<Tables> {
     let mut tables = Tables::of(network);
     for _ in 0..rng.between(1, 3) {
         let place = any_word(rng, network);
-        tables.words[place] ^= 1 << rng.between(0, 31);
+        tables.set_number(place, tables.number(place) ^ 1 << rng.between(0, 31));
     }
     Some(tables)
 }
@@ -54,19 +75,21 @@ pub fn bits_of_numbers(rng: &mut Rng, network: &Network) -> Option<Tables> {
 pub fn number(rng: &mut Rng, network: &Network) -> Option<Tables> {
     let mut tables = Tables::of(network);
     let (place, other) = (any_word(rng, network), any_word(rng, network));
-    tables.words[place] = match rng.between(0, 3) {
-        0 => tables.words[other],
-        1 => tables.words[place].wrapping_add(1),
-        2 => tables.words[place].wrapping_sub(1),
+    let number = tables.number(place);
+    let number = match rng.between(0, 3) {
+        0 => tables.number(other),
+        1 => number.wrapping_add(1),
+        2 => number.wrapping_sub(1),
         _ => draw::odd_word(rng),
     };
+    tables.set_number(place, number);
     Some(tables)
 }
 
 pub fn numbers_exchanged(rng: &mut Rng, network: &Network) -> Option<Tables> {
     let mut tables = Tables::of(network);
     let (a, b) = (any_word(rng, network), any_word(rng, network));
-    tables.words.swap(a, b);
+    exchange(&mut tables, a, b);
     Some(tables)
 }
 
@@ -93,7 +116,7 @@ pub fn count(rng: &mut Rng, network: &Network) -> Option<Tables> {
         unit..unit + 1
     };
     for unit in units {
-        tables.words[word_at(unit, unit_table::COUNT)] = other;
+        tables.set_number(word_at(unit, unit_table::COUNT), other);
     }
     Some(tables)
 }
@@ -125,7 +148,7 @@ pub fn units_exchanged(rng: &mut Rng, network: &Network) -> Option<Tables> {
     }
     let mut tables = Tables::of(&network);
     for place in 0..UNIT {
-        tables.words.swap(word_at(a, place), word_at(b, place));
+        exchange(&mut tables, word_at(a, place), word_at(b, place));
     }
     Some(tables)
 }
@@ -206,11 +229,12 @@ pub fn successors(rng: &mut Rng, network: &Network) -> Option<Tables> {
     let (i, j) = (any_unit(rng, network), any_unit(rng, network));
     let mut tables = Tables::of(network);
     let place = word_at(i, SUCCESSORS + usize::from(j));
-    tables.words[place] = match rng.between(0, 4) {
+    let set = tables.number(place);
+    let set = match rng.between(0, 4) {
         0 => 0,
-        1 => tables.words[place] ^ 1 << any_unit(rng, network),
-        2 => tables.words[place] ^ 1 << rng.between(0, 31),
-        3 => tables.words[place].wrapping_add(1),
+        1 => set ^ 1 << any_unit(rng, network),
+        2 => set ^ 1 << rng.between(0, 31),
+        3 => set.wrapping_add(1),
         _ => {
             let unit = network.unit(i);
             let near = unit.neighbours.iter();
@@ -218,6 +242,7 @@ pub fn successors(rng: &mut Rng, network: &Network) -> Option<Tables> {
             near.map(|(&k, _)| 1 << k).sum()
         }
     };
+    tables.set_number(place, set);
     Some(tables)
 }
 

@@ -4,9 +4,10 @@ use super::{any_unit, forget_link, some_gap, some_link};
 use second::limits::{message_length, CONTENTS, ENTRY_BYTES, UNITS};
 use second::message::{ACKNOWLEDGMENT, EDITION, NUMBER, SENDER};
 use second::network::Network;
-use second::network_tables::{queue_at, Tables, BYTES, PLACE, QUEUE, WORDS};
+use second::network_tables::{queue_at, Tables, PLACE, QUEUE};
+use second::network_tables::{QUEUES_BYTES, UNITS_BYTES, UNIT_BYTES};
+use second::table_bytes::EACH;
 use second::tree::UnitNumber;
-use second::unit_table::WORDS as UNIT;
 use shared::draw::MOST;
 use shared::rng::Rng;
 use shared::sample;
@@ -135,11 +136,21 @@ pub fn message_without_link(rng: &mut Rng, network: &Network) -> Option<Tables> 
 pub fn byte_of_queues(rng: &mut Rng, network: &Network) -> Option<Tables> {
     let mut tables = Tables::of(network);
     let place = match rng.between(0, 3) {
-        0 => rng.between(0, BYTES as u32 - 1) as usize,
-        1 => BYTES - 1,
+        0 => rng.between(0, QUEUES_BYTES as u32 - 1) as usize,
+        1 => QUEUES_BYTES - 1,
         _ => queue_at(any_unit(rng, network), any_unit(rng, network)),
     };
     tables.queues[place] ^= 1 << rng.between(0, 7);
+    Some(tables)
+}
+
+/// The units' table some bytes longer or shorter, or none at all, and the queues
+/// as they are.
+pub fn units_length(rng: &mut Rng, network: &Network) -> Option<Tables> {
+    let mut tables = Tables::of(network);
+    let whole = UNITS_BYTES;
+    let lengths = [0, whole - EACH, whole - 1, whole + 1, whole + EACH];
+    tables.units.resize(*rng.pick(&lengths)?, 0);
     Some(tables)
 }
 
@@ -148,12 +159,19 @@ pub fn lengths(rng: &mut Rng, network: &Network) -> Option<Tables> {
     let mut tables = Tables::of(network);
     let which = rng.between(0, 3);
     if which != 0 {
-        let lengths = [0, 1, UNIT, WORDS - UNIT, WORDS - 1, WORDS + 1, 2 * WORDS];
-        tables.words.resize(*rng.pick(&lengths)?, 0);
+        let length = other_length(rng, UNITS_BYTES, UNIT_BYTES)?;
+        tables.units.resize(length, 0);
     }
     if which != 1 {
-        let lengths = [0, 1, QUEUE, BYTES - QUEUE, BYTES - 1, BYTES + 1, 2 * BYTES];
-        tables.queues.resize(*rng.pick(&lengths)?, 0);
+        let length = other_length(rng, QUEUES_BYTES, QUEUE)?;
+        tables.queues.resize(length, 0);
     }
     Some(tables)
+}
+
+/// Another length than that of the whole, which has parts of this length.
+fn other_length(rng: &mut Rng, whole: usize, part: usize) -> Option<usize> {
+    let near = [whole - EACH, whole - 1, whole + 1, whole + EACH];
+    let far = [0, 1, EACH, part, whole - part, whole + part, 2 * whole];
+    rng.pick(&[&near[..], &far[..]].concat()).copied()
 }

@@ -4,7 +4,9 @@ use crate::call::Call;
 use crate::product::{CIRCLING, STRANDED};
 use second::limits::{message_length, ACCEPTED, ENTRY_BASE, GREATEST_DISTANCE, UNITS};
 use second::message::{NUMBER, SENDER};
-use second::network_tables::{queue_at, Tables, BYTES, PLACE, QUEUE, WORDS};
+use second::network_tables::{queue_at, Tables, PLACE, QUEUE, UNIT_BYTES};
+use second::network_tables::{QUEUES_BYTES, UNITS_BYTES, WORDS};
+use second::table_bytes::{self, EACH};
 use second::tree::UnitNumber;
 use second::unit::distances;
 use second::unit_table::{self, AWAITED, COSTS, FEASIBLE, SUCCESSORS, UNREACHABLE};
@@ -20,15 +22,17 @@ pub enum Change {
     Outcome(fn(&Call, &mut Tables)),
     Refusal(fn(&mut Tables)),
     Path(fn(u32, &mut [u8])),
-    Fresh(fn(&mut [u32], &mut [u8])),
+    Fresh(fn(&mut [u8], &mut [u8])),
 }
 
 /// A fault, by its name.
 pub type Fault = (&'static str, Change);
 
 /// All faults.
-pub const FAULTS: [Fault; 27] = [
+pub const FAULTS: [Fault; 31] = [
     ("other lengths are fit", Change::Blind(resize)),
+    ("bytes after the units are fit", Change::Blind(shorten)),
+    ("numbers of 3 bytes", Change::Blind(cut_numbers)),
     (
         "numbers above the count are fit",
         Change::Blind(clear_above),
@@ -72,9 +76,11 @@ pub const FAULTS: [Fault; 27] = [
     ("circling is stranded", Change::Answer(strand)),
     ("a great distance is less", Change::Answer(lessen)),
     ("PASSIVE at all times", Change::Answer(calm)),
+    ("links as if all were up", Change::Answer(lift)),
+    ("nobody is awaited", Change::Answer(forget)),
     (
         "a number above the count stays",
-        Change::Outcome(|_, it| it.words[WORDS - 1] = 1),
+        Change::Outcome(|_, it| it.set_number(WORDS - 1, 1)),
     ),
     (
         "a delivered message leaves a byte",
@@ -85,26 +91,44 @@ pub const FAULTS: [Fault; 27] = [
     ("a byte after the path", Change::Path(lengthen)),
     (
         "a fresh number stays",
-        Change::Fresh(|words, _| words[WORDS - 1] = 1),
+        Change::Fresh(|units, _| units[UNITS_BYTES - 1] = 1),
     ),
     (
         "a fresh byte stays",
-        Change::Fresh(|_, queues| queues[BYTES - 1] = 1),
+        Change::Fresh(|_, queues| queues[QUEUES_BYTES - 1] = 1),
     ),
 ];
 
 fn resize(tables: &mut Tables) {
-    tables.words.resize(WORDS, 0);
-    tables.queues.resize(BYTES, 0);
+    tables.units.resize(UNITS_BYTES, 0);
+    tables.queues.resize(QUEUES_BYTES, 0);
+}
+
+/// As if a length were divided by that of a number before it is looked at.
+fn shorten(tables: &mut Tables) {
+    if tables.units.len() / EACH == WORDS {
+        tables.units.truncate(UNITS_BYTES);
+    }
+}
+
+/// As if the high byte of a number were not read.
+fn cut_numbers(tables: &mut Tables) {
+    each_unit(tables, |_, _, words| {
+        let before_distances = words[..FEASIBLE].iter_mut();
+        before_distances.for_each(|number| *number &= 0x00ff_ffff);
+    });
 }
 
 /// Changes each unit's numbers, given the unit and the count.
 fn each_unit(tables: &mut Tables, change: impl Fn(usize, usize, &mut [u32])) {
-    let count = tables.words.get(unit_table::COUNT);
-    let count = count.map_or(0, |&count| count as usize);
-    let units = tables.words.chunks_exact_mut(unit_table::WORDS);
-    for (unit, words) in units.enumerate() {
-        change(unit, count, words);
+    let mut count = 0;
+    for (unit, table) in tables.units.chunks_exact_mut(UNIT_BYTES).enumerate() {
+        let mut words = table_bytes::numbers(table);
+        if unit == 0 {
+            count = words[unit_table::COUNT] as usize;
+        }
+        change(unit, count, &mut words);
+        table_bytes::lay(&words, table);
     }
 }
 
@@ -152,8 +176,8 @@ fn cut_successors(tables: &mut Tables) {
 
 /// Changes each queue, given its sender and whether its link is up.
 fn each_queue(tables: &mut Tables, change: impl Fn(u8, bool, &mut [u8])) {
-    let Tables { words, queues } = tables;
-    for (number, queue) in queues.chunks_exact_mut(QUEUE).enumerate() {
+    let words = table_bytes::numbers(&tables.units);
+    for (number, queue) in tables.queues.chunks_exact_mut(QUEUE).enumerate() {
         let (from, to) = (number / UNITS, number % UNITS);
         let cost = words.get(unit_table::WORDS * from + COSTS + to);
         change(from as u8, cost.is_some_and(|&cost| cost != 0), queue);
@@ -231,6 +255,20 @@ fn lessen(call: &Call, answer: u32) -> u32 {
 fn calm(call: &Call, answer: u32) -> u32 {
     match call {
         Call::State(_) if answer == ACCEPTED + 1 => ACCEPTED,
+        _ => answer,
+    }
+}
+
+fn lift(call: &Call, answer: u32) -> u32 {
+    match call {
+        Call::Link(..) if answer == ACCEPTED => ACCEPTED + 1,
+        _ => answer,
+    }
+}
+
+fn forget(call: &Call, answer: u32) -> u32 {
+    match call {
+        Call::Awaits(..) if answer == ACCEPTED + 1 => ACCEPTED,
         _ => answer,
     }
 }

@@ -2,6 +2,7 @@
 pub mod Asking
 pub mod HubBorder
 pub mod MessageBorder
+pub mod MeterBorder
 pub mod NetworkBorder
 pub mod Numbers
 pub mod OneOutput

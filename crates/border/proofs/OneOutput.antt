@@ -3,6 +3,7 @@ use Rattle.ground.specs.Unique.{OneOutput}
 use Rattle.ground.proofs.Unique.{agree}
 use Rattle.border.proofs.hub
 use Rattle.border.proofs.messages
+use Rattle.border.proofs.meters
 use Rattle.border.proofs.networks
 
 -- A unit: the answer and the fresh table.
@@ -86,3 +87,44 @@ networks-puntclover-network-awaits-once _ _ _ _ p q i = (agree p q i, _)
 -- The answer and the path.
 pub networks-puntclover-network-trace-once : OneOutput networks.puntclover_network_trace.ended networks.puntclover_network_trace.Reads.Learnt
 networks-puntclover-network-trace-once _ _ _ _ p q i = (agree (p .0) (q .0) i, (_, (_, (_, (_, (_, (agree (p .1) (q .1) i, _)))))))
+
+-- A meter: the answer and the table.
+pub meters-puntclover-meter-fresh-once : OneOutput meters.puntclover_meter_fresh.ended meters.puntclover_meter_fresh.Reads.Learnt
+meters-puntclover-meter-fresh-once _ _ _ _ p q i = (agree (p .0) (q .0) i, (agree (p .1) (q .1) i, _))
+
+pub meters-puntclover-meter-enter-once : OneOutput meters.puntclover_meter_enter.ended meters.puntclover_meter_enter.Reads.Learnt
+meters-puntclover-meter-enter-once _ _ _ _ p q i = (agree (p .0) (q .0) i, (_, (_, (agree (p .1) (q .1) i, _))))
+
+pub meters-puntclover-meter-move-once : OneOutput meters.puntclover_meter_move.ended meters.puntclover_meter_move.Reads.Learnt
+meters-puntclover-meter-move-once _ _ _ _ p q i = (agree (p .0) (q .0) i, (_, (_, (agree (p .1) (q .1) i, _))))
+
+pub meters-puntclover-meter-drop-once : OneOutput meters.puntclover_meter_drop.ended meters.puntclover_meter_drop.Reads.Learnt
+meters-puntclover-meter-drop-once _ _ _ _ p q i = (agree (p .0) (q .0) i, (_, (_, (agree (p .1) (q .1) i, _))))
+
+-- The answers to questions.
+pub meters-puntclover-meter-entered-once : OneOutput meters.puntclover_meter_entered.ended meters.puntclover_meter_entered.Reads.Learnt
+meters-puntclover-meter-entered-once _ _ _ _ p q i = (agree p q i, _)
+
+pub meters-puntclover-meter-delivered-once : OneOutput meters.puntclover_meter_delivered.ended meters.puntclover_meter_delivered.Reads.Learnt
+meters-puntclover-meter-delivered-once _ _ _ _ p q i = (agree p q i, _)
+
+pub meters-puntclover-meter-dropped-once : OneOutput meters.puntclover_meter_dropped.ended meters.puntclover_meter_dropped.Reads.Learnt
+meters-puntclover-meter-dropped-once _ _ _ _ p q i = (agree p q i, _)
+
+pub meters-puntclover-meter-held-once : OneOutput meters.puntclover_meter_held.ended meters.puntclover_meter_held.Reads.Learnt
+meters-puntclover-meter-held-once _ _ _ _ p q i = (agree p q i, _)
+
+pub meters-puntclover-meter-frames-once : OneOutput meters.puntclover_meter_frames.ended meters.puntclover_meter_frames.Reads.Learnt
+meters-puntclover-meter-frames-once _ _ _ _ p q i = (agree p q i, _)
+
+pub meters-puntclover-meter-frame-size-once : OneOutput meters.puntclover_meter_frame_size.ended meters.puntclover_meter_frame_size.Reads.Learnt
+meters-puntclover-meter-frame-size-once _ _ _ _ p q i = (agree p q i, _)
+
+pub meters-puntclover-meter-frame-unit-once : OneOutput meters.puntclover_meter_frame_unit.ended meters.puntclover_meter_frame_unit.Reads.Learnt
+meters-puntclover-meter-frame-unit-once _ _ _ _ p q i = (agree p q i, _)
+
+pub meters-puntclover-meter-frame-destination-once : OneOutput meters.puntclover_meter_frame_destination.ended meters.puntclover_meter_frame_destination.Reads.Learnt
+meters-puntclover-meter-frame-destination-once _ _ _ _ p q i = (agree p q i, _)
+
+pub meters-puntclover-meter-frame-hops-once : OneOutput meters.puntclover_meter_frame_hops.ended meters.puntclover_meter_frame_hops.Reads.Learnt
+meters-puntclover-meter-frame-hops-once _ _ _ _ p q i = (agree p q i, _)

@@ -15,7 +15,7 @@ use paths::tracer;
 use state::questions::Question;
 
 // The bytes of the units' tables.
-const UNITS_BYTES: usize = 4 * NETWORK_WORDS;
+pub(crate) const UNITS_BYTES: usize = 4 * NETWORK_WORDS;
 
 // What happens in a network.
 enum NetworkCall {

@@ -6,5 +6,6 @@ pub mod OneOutput
 pub mod PartsOfFit
 pub mod PartsRead
 pub mod PlacesFit
+pub mod SuccessorSets
 pub mod TableThere
 pub mod Tiles

@@ -18,4 +18,5 @@ pub mod Rows
 pub mod Said
 pub mod Stored
 pub mod Tests
+pub mod Totals
 pub mod Unique

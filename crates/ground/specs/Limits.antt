@@ -48,3 +48,22 @@ messageRoom = 4 + 4 * entryLimit
 -- "The room asked for is 975 bytes": a message for each neighbour, "each after one byte with the neighbour's number".
 abbrev pub firmwareRoom : ℕ
 firmwareRoom = (unitLimit - 1) * (1 + messageRoom)
+
+-- "holds up to 64 frames"
+abbrev pub frameLimit : ℕ
+frameLimit = 64
+
+-- "each with a size of 1 to 65,535 bytes"
+abbrev pub highestSize : ℕ
+highestSize = 65535
+
+abbrev pub legalSize : ℕ → Bool
+legalSize size = leb 1 size && leb size highestSize
+
+-- "at its 64th hop it is delivered if that hop reaches the destination, else dropped"
+abbrev pub hopLimit : ℕ
+hopLimit = 64
+
+-- "15 entered bytes would pass 10^15"
+abbrev pub enteredLimit : ℕ
+enteredLimit = 1000000000000000

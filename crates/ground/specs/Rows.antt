@@ -35,6 +35,11 @@ abbrev pub least : ℕ → (ℕ → ℕ) → ℕ
 least zero f = far
 least (suc n) f = min (least n f) (f n)
 
+-- The sum of f over the numbers below n.
+abbrev pub total : ℕ → (ℕ → ℕ) → ℕ
+total zero f = 0
+total (suc n) f = total n f + f n
+
 -- The lowest unit below n of which p holds, or n.
 abbrev pub lowest : ℕ → (ℕ → Bool) → ℕ
 lowest zero p = zero

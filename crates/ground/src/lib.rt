@@ -49,6 +49,18 @@ pub const NETWORK_BYTES: usize = UNITS * SENDER_BYTES;
 // The numbers in the tables of all units.
 pub const NETWORK_WORDS: usize = UNITS * UNIT_WORDS;
 
+// The frames that a meter holds, the largest size of one, the hop at which one ends, and the most bytes that may enter.
+pub const FRAMES: usize = 64;
+
+pub const HIGHEST_SIZE: u32 = 65535;
+
+pub const HOPS: u32 = 64;
+
+pub const ENTERED_LIMIT: u64 = 1000000000000000;
+
+// The numbers in a meter's table: two for each of three figures, four for each place.
+pub const METER_WORDS: usize = 6 + 4 * FRAMES;
+
 // What is not refused answers this plus a value; every refusal is below it.
 pub const ANSWERED: u32 = 100;
 

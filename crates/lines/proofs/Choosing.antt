@@ -10,10 +10,12 @@ use lib.ListN.{length, take, drop}
 use Rattle.ground.specs.Choice.{if_then_else_}
 use Rattle.ground.specs.Rows.{at, same}
 use Rattle.ground.proofs.Tests.{both}
-use Rattle.lines.specs.Commands.{argument, isSpelled, commandOf}
-use Rattle.lines.specs.Following.{argumentLimit, Told, eitherOf, chosen}
+use Rattle.lines.specs.Commands.{argument, isSpelled, meterCommandOf, commandOf}
+use Rattle.lines.specs.Following.{argumentLimit, Told, eitherOf, meterChosen, othersChosen, chosen}
 use Rattle.lines.specs.Words.{wordEnd, firstWord, afterWord, unitsName, upName, costName, downName, deliverName, showName}
+use Rattle.lines.specs.Words.{enterName, moveName, dropName, pageName}
 use Rattle.lines.specs.declared.Command.{Command}
+use Rattle.lines.specs.declared.Command.the-variants.{Bad}
 use Rattle.lines.specs.declared.Found.{Found}
 use Rattle.lines.proofs.Words.{first-lent, after-lent}
 
@@ -22,11 +24,16 @@ choice-alike : {A : Type 0} (t : Bool) {a b x y : A} → (t ≡ true → a ≡ b
 choice-alike true p q = p refl
 choice-alike false p q = q
 
--- What is chosen by a word and by what is found.
-abbrev chosenBy : (word : List ℕ) (found : Found) → Command
-chosenBy word found =
+-- What is chosen by a word and by what is found: of a meter's commands where there is one, and of those that every script has.
+abbrev othersBy : (word : List ℕ) (found : Found) (metered : Bool) → Command
+othersBy word found metered =
     let number = at (found .list) in
-    chosen word (found .count) (number 0) (number 1) (number 2) (number 3)
+    othersChosen word (found .count) (number 0) (number 1) (number 2) metered
+
+abbrev chosenBy : (word : List ℕ) (found : Found) (other : Command) → Command
+chosenBy word found other =
+    let number = at (found .list) in
+    chosen word (found .count) (number 0) (number 1) (number 2) (number 3) other
 
 module _ (line : List ℕ) (found : Found) (tells : Told (afterWord line) found) where
   -- The name is tried, and otherwise the others: alike by the line and by what is found.
@@ -42,22 +49,39 @@ module _ (line : List ℕ) (found : Found) (tells : Told (afterWord line) found)
       p (λ i l. tells .listed i (omega arith) (omega arith)))
       q)
 
+  -- What is chosen of a meter's commands is that of the line.
+  chosen-others : (metered : Bool)
+      → othersBy (firstWord line) found metered ≡ (if metered then meterCommandOf line else Bad)
+  unfolding othersChosen meterChosen meterCommandOf
+  chosen-others metered =
+      choice-alike metered
+      (λ t.
+      tried enterName 3 (omega arith) (λ list. rw (list 0 (omega arith), list 1 (omega arith), list 2 (omega arith)))
+      (tried moveName 2 (omega arith) (λ list. rw (list 0 (omega arith), list 1 (omega arith)))
+      (tried dropName 1 (omega arith) (λ list. rw (list 0 (omega arith)))
+      (tried pageName 0 (omega arith) (λ list. refl) refl))))
+      refl
+
   -- What is chosen is the command of the line.
-  chosen-command : chosenBy (firstWord line) found ≡ commandOf line
+  chosen-command : (metered : Bool) (other : Command) → other ≡ othersBy (firstWord line) found metered
+      → chosenBy (firstWord line) found other ≡ commandOf metered line
   unfolding chosen commandOf
-  chosen-command =
+  chosen-command metered other is =
       tried unitsName 1 (omega arith) (λ list. rw (list 0 (omega arith)))
       (tried upName 4 (omega arith)
       (λ list. rw (list 0 (omega arith), list 1 (omega arith), list 2 (omega arith), list 3 (omega arith)))
       (tried costName 3 (omega arith) (λ list. rw (list 0 (omega arith), list 1 (omega arith), list 2 (omega arith)))
       (tried downName 2 (omega arith) (λ list. rw (list 0 (omega arith), list 1 (omega arith)))
       (tried deliverName 2 (omega arith) (λ list. rw (list 0 (omega arith), list 1 (omega arith)))
-      (tried showName 0 (omega arith) (λ list. refl) refl)))))
+      (tried showName 0 (omega arith) (λ list. refl) (is ∙ chosen-others metered))))))
 
 -- So is what is chosen by the word and by what is found, as they are lent.
-pub chosen-lent : (line : List ℕ) (end : ℕ) {found : Found} {command : Command} → end ≡ wordEnd line
+pub chosen-lent : (line : List ℕ) (end : ℕ) (metered : Bool) {found : Found} {other command : Command} → end ≡ wordEnd line
     → Told (take (length line - end) (drop end line)) found
-    → command ≡ chosenBy (take end line) found
-    → command ≡ commandOf line
-chosen-lent line end {found} e tells is =
-    is ∙ rw (first-lent line end e) (chosen-command line found (rw (after-lent line end e) at tells))
+    → other ≡ othersBy (take end line) found metered
+    → command ≡ chosenBy (take end line) found other
+    → command ≡ commandOf metered line
+chosen-lent line end metered {found} {other} e tells others is =
+    let first = first-lent line end e in
+    is
+    ∙ rw first (chosen-command line found (rw (after-lent line end e) at tells) metered other (rw first at others))

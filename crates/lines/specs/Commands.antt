@@ -1,5 +1,5 @@
 -- Rule: "a command on each line: `units n`, `up a b ca cb`, `cost a b c`, `down a b`, `deliver a b`, `show`; single spaces,
--- decimals of at most 9 digits without leading zeros."
+-- decimals of at most 9 digits without leading zeros." Where there is a meter, also `enter s i j`, `move f k`, `drop f`, `page`.
 use Prim.Native.Nat.{ℕ, zero, suc, _+_, _*_}
 use mathlib.Core.Bool.{Bool, _&&_}
 use mathlib.Core.List.{List}
@@ -9,8 +9,9 @@ use Rattle.ground.specs.Choice.{if_then_else_}
 use Rattle.ground.specs.Rows.{same}
 use Rattle.lines.specs.Words.{firstWord, afterWord, digitLimit, isDecimal, valueOf}
 use Rattle.lines.specs.Words.{unitsName, upName, costName, downName, deliverName, showName}
+use Rattle.lines.specs.Words.{enterName, moveName, dropName, pageName}
 use Rattle.lines.specs.declared.Command.{Command}
-use Rattle.lines.specs.declared.Command.the-variants.{Units, Up, Cost, Down, Deliver, Show, Bad}
+use Rattle.lines.specs.declared.Command.the-variants.{Units, Up, Cost, Down, Deliver, Show, Enter, Move, Drop, Page, Bad}
 
 -- Whether what follows a word is exactly k decimals, each after a space.
 unfoldable pub isArguments : (k : ℕ) (rest : List ℕ) → Bool
@@ -31,9 +32,19 @@ isSpelled name k line = same (firstWord line) name && isArguments k (afterWord l
 abbrev pub longestCommand : ℕ
 longestCommand = length upName + 4 * (1 + digitLimit)
 
--- The command that a line is.
-unfoldable pub commandOf : (line : List ℕ) → Command
-commandOf line =
+-- The command that a line of a meter is.
+unfoldable pub meterCommandOf : (line : List ℕ) → Command
+meterCommandOf line =
+    let rest = afterWord line in
+    if isSpelled enterName 3 line then Enter (argument 0 rest) (argument 1 rest) (argument 2 rest)
+    else if isSpelled moveName 2 line then Move (argument 0 rest) (argument 1 rest)
+    else if isSpelled dropName 1 line then Drop (argument 0 rest)
+    else if isSpelled pageName 0 line then Page
+    else Bad
+
+-- The command that a line is, with a meter or without.
+unfoldable pub commandOf : (metered : Bool) (line : List ℕ) → Command
+commandOf metered line =
     let rest = afterWord line in
     if isSpelled unitsName 1 line then Units (argument 0 rest)
     else if isSpelled upName 4 line then Up (argument 0 rest) (argument 1 rest) (argument 2 rest) (argument 3 rest)
@@ -41,4 +52,5 @@ commandOf line =
     else if isSpelled downName 2 line then Down (argument 0 rest) (argument 1 rest)
     else if isSpelled deliverName 2 line then Deliver (argument 0 rest) (argument 1 rest)
     else if isSpelled showName 0 line then Show
+    else if metered then meterCommandOf line
     else Bad

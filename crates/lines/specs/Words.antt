@@ -39,7 +39,7 @@ valueTo word (suc i) = valueTo word i * 10 + (at word i - digitZero)
 abbrev pub valueOf : List ℕ → ℕ
 valueOf word = valueTo word (length word)
 
--- The names of commands: units, up, cost, down, deliver, show.
+-- The names of commands: units, up, cost, down, deliver, show; and of a meter's: enter, move, drop, page.
 abbrev pub unitsName : List ℕ
 unitsName = 117 ∷ 110 ∷ 105 ∷ 116 ∷ 115 ∷ []
 
@@ -57,3 +57,15 @@ deliverName = 100 ∷ 101 ∷ 108 ∷ 105 ∷ 118 ∷ 101 ∷ 114 ∷ []
 
 abbrev pub showName : List ℕ
 showName = 115 ∷ 104 ∷ 111 ∷ 119 ∷ []
+
+abbrev pub enterName : List ℕ
+enterName = 101 ∷ 110 ∷ 116 ∷ 101 ∷ 114 ∷ []
+
+abbrev pub moveName : List ℕ
+moveName = 109 ∷ 111 ∷ 118 ∷ 101 ∷ []
+
+abbrev pub dropName : List ℕ
+dropName = 100 ∷ 114 ∷ 111 ∷ 112 ∷ []
+
+abbrev pub pageName : List ℕ
+pageName = 112 ∷ 97 ∷ 103 ∷ 101 ∷ []

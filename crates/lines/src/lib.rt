@@ -1,11 +1,12 @@
-// Which command a line is: a name and then decimals, each after a single space, and nothing else.
+// Which command a line is: a name and then decimals, each after a single space, and nothing else. A meter has commands of its
+// own, which are no commands where there is none.
 ghost use mathlib.Core.Bool.{true};
 ghost use mathlib.Core.Path.{_≡_};
 ghost use Prim.Native.Nat.{_≤_};
 ghost use lib.ListN.{length};
 ghost use Rattle.ground.specs.Rows.{at, every};
 ghost use Rattle.lines.specs.Commands.{commandOf};
-ghost use Rattle.lines.specs.Following.{Told, eitherOf, chosen};
+ghost use Rattle.lines.specs.Following.{Told, eitherOf, chosen, meterChosen, othersChosen};
 ghost use Rattle.lines.specs.Words.{wordEnd, isDigit, isDecimal, valueOf};
 use slices::bytes;
 
@@ -24,6 +25,10 @@ pub enum Command {
     Down(u32, u32),
     Deliver(u32, u32),
     Show,
+    Enter(u32, u32, u32),
+    Move(u32, u32),
+    Drop(u32),
+    Page,
     // Any other line.
     Bad,
 }
@@ -159,11 +164,32 @@ fn either(
     second
 }
 
-// The command of a name and the decimals that follow it. The names are tried from the last to the first.
-fn choose(word: &[u8], count: usize, a: u32, b: u32, c: u32, d: u32) -> Command
-    ensures { λ r. ⌜ r ≡ chosen (now (word .entry)) count a b c d ⌝ }
+// The command of a meter that a name and the decimals that follow it are. The names are tried from the last to the first.
+fn choose_meter(word: &[u8], count: usize, a: u32, b: u32, c: u32) -> Command
+    ensures { λ r. ⌜ r ≡ meterChosen (now (word .entry)) count a b c ⌝ }
 {
-    let command = either(word, count, b"show", 0, Command::Show, Command::Bad);
+    let command = either(word, count, b"page", 0, Command::Page, Command::Bad);
+    let command = either(word, count, b"drop", 1, Command::Drop(a), command);
+    let command = either(word, count, b"move", 2, Command::Move(a, b), command);
+    either(word, count, b"enter", 3, Command::Enter(a, b, c), command)
+}
+
+// The same where there is a meter; where there is none, no command.
+fn others(word: &[u8], count: usize, a: u32, b: u32, c: u32, metered: bool) -> Command
+    ensures { λ r. ⌜ r ≡ othersChosen (now (word .entry)) count a b c metered ⌝ }
+{
+    if metered {
+        return choose_meter(word, count, a, b, c);
+    }
+    Command::Bad
+}
+
+// The command of a name and the decimals that follow it, `other` where it is none of those that every script has. The names are
+// tried from the last to the first.
+fn choose(word: &[u8], count: usize, a: u32, b: u32, c: u32, d: u32, other: Command) -> Command
+    ensures { λ r. ⌜ r ≡ chosen (now (word .entry)) count a b c d other ⌝ }
+{
+    let command = either(word, count, b"show", 0, Command::Show, other);
     let command = either(word, count, b"deliver", 2, Command::Deliver(a, b), command);
     let command = either(word, count, b"down", 2, Command::Down(a, b), command);
     let command = either(word, count, b"cost", 3, Command::Cost(a, b, c), command);
@@ -171,19 +197,14 @@ fn choose(word: &[u8], count: usize, a: u32, b: u32, c: u32, d: u32) -> Command
     either(word, count, b"units", 1, Command::Units(a), command)
 }
 
-// The command that a line is.
-pub fn parse(line: &[u8]) -> Command
-    ensures { λ r. ⌜ r ≡ commandOf (now (line .entry)) ⌝ }
+// The command that a line is, with a meter or without.
+pub fn parse(line: &[u8], metered: bool) -> Command
+    ensures { λ r. ⌜ r ≡ commandOf metered (now (line .entry)) ⌝ }
 {
     let end = word_end(line);
     let found = arguments(&line[end..]);
     let list = found.list;
-    choose(
-        &line[..end],
-        found.count,
-        list[0],
-        list[1],
-        list[2],
-        list[3],
-    )
+    let word = &line[..end];
+    let other = others(word, found.count, list[0], list[1], list[2], metered);
+    choose(word, found.count, list[0], list[1], list[2], list[3], other)
 }

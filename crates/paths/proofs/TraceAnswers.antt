@@ -27,7 +27,7 @@ use Rattle.paths.specs.declared.tracer.Traced.{Traced}
 use Rattle.paths.specs.declared.tracer.Traced.the-variants.{Arrived, Stranded, Circling, Refused}
 use Rattle.paths.specs.Tracing.{endingValues, tracingSaid, valuesOf, traceValues, Traceable, EndsAs, LaysPath}
 use Rattle.paths.specs.Tracing.{endedAs, tracedAs, traceAnswer, traceNumber, highestAnswer}
-use Rattle.paths.proofs.Turns.{fit-sized}
+use Rattle.fitness.proofs.SuccessorSets.{fit-sized}
 
 -- Two answers that say the same are the same: the answer can be found again from its number and values.
 by-values : (number : ℕ) (values : List ℕ) → Traced

@@ -7,44 +7,21 @@ use mathlib.Core.Bool.{true, false}
 use mathlib.Core.List.{List, [], _∷_, _++_}
 use mathlib.Core.Logic.{_≢_}
 use mathlib.Core.Path.{_≡_, refl, sym, ap, _∙_}
-use borrow.Author.Tests.{eq-eqb, ne-eqb, eqb-true, eqb-false}
+use borrow.Author.Tests.{eq-eqb, ne-eqb, eqb-false}
 use lib.Dec.{eqb}
 use lib.ListN.{length, set, take, drop, length-set, length-append}
-use lib.Seq.{getD-take, getD-drop, drop-drop, set-split, take-suc-set, drop-set-lt, length-take-le, append-snoc}
-use Rattle.ground.specs.Limits.{unitLimit}
+use lib.Seq.{drop-drop, set-split, take-suc-set, drop-set-lt, length-take-le, append-snoc}
 use Rattle.ground.specs.Rows.{at, isIn}
 use Rattle.ground.specs.Said.{acceptedWith}
-use Rattle.ground.proofs.Lists.{parts, at-from}
+use Rattle.ground.proofs.Lists.{at-from}
 use Rattle.rules.specs.Network.{Network, unitAt}
-use Rattle.rules.specs.Tables.{unitWords, networkWords, successorsAt, part, networkFrom, fitTables}
+use Rattle.rules.specs.Tables.{unitWords, networkWords, successorsAt, networkFrom, fitTables}
 use Rattle.rules.specs.Tracer.{Trace, Ending, arrived, stranded, circling, endsHere, goesOn, chosen, traceFrom, trace}
 use Rattle.rules.specs.Tracer.{pathLaid}
 use Rattle.rules.specs.Unit.{isSuccessor, successors, successorSet}
-use Rattle.rules.proofs.Fit.{fit-tables-of, fit-network-shaped}
-use Rattle.rules.proofs.LaidNetwork.{ShapedNetwork, unit-part, network-lays-back}
-use Rattle.state.proofs.QuestionAnswers.{set-at-place}
+use Rattle.fitness.proofs.SuccessorSets.{Sized, fit-sized, setAt, counted, set-in-place}
 use Rattle.paths.specs.Tracing.{unitsIn, endingValues, valuesOf, traceValues, Traceable, LaysPath}
 use Rattle.paths.proofs.Sets.{units-of-bits, none-alike, rising-under}
-
--- What the numbers of fit tables have: their length, and a count from 2 to the limit.
-pub record Sized (words : List ℕ) : Type 0 where
-  pub long : length words ≡ networkWords
-  pub low : 2 ≤ at words 0
-  pub high : at words 0 ≤ unitLimit
-
--- Fit tables have it.
-pub fit-sized : (words bytes : List ℕ) → fitTables words bytes ≡ true → Sized words
-unfolding fitTables networkFrom
-fit-sized words bytes e =
-    record {
-      long = eqb-true (length words) networkWords (search parts);
-      low = fit-tables-of words bytes e .low;
-      high = fit-tables-of words bytes e .high;
-    }
-
--- The number in the table for the successors of unit i.
-abbrev pub setAt : (words : List ℕ) (destination i : ℕ) → ℕ
-setAt words destination i = at words (i * unitWords + (successorsAt + destination))
 
 module _ (words bytes : List ℕ) (fit : fitTables words bytes ≡ true) (destination i : ℕ)
     (aimed : destination < at words 0) (inside : i < at words 0) where
@@ -52,41 +29,22 @@ module _ (words bytes : List ℕ) (fit : fitTables words bytes ≡ true) (destin
   abbrev net : Network
   net = networkFrom words bytes
 
-  -- It has its rows and units.
-  shaped : ShapedNetwork net
-  shaped = fit-network-shaped words bytes fit
-
-  -- Unit i is below its count.
-  below : i < net .count
-  unfolding networkFrom
-  below = inside
-
-  -- Unit i has the table's count.
-  counted : unitAt net i .count ≡ at words 0
-  unfolding networkFrom
-  counted = shaped .counts i inside
-
-  -- The table has unit i's successor set at its place.
-  set-in-place : setAt words destination i ≡ successorSet (unitAt net i) destination
-  set-in-place =
-      let place = successorsAt + destination in
-      sym
-      (getD-take unitWords (drop (i * unitWords) words) place 0 (omega (arith, fit-sized words bytes fit .high))
-      ∙ getD-drop (i * unitWords) words place 0)
-      ∙ ap (λ (xs : List ℕ). at (part xs (i * unitWords) unitWords) place) (sym (network-lays-back words bytes fit .0))
-      ∙ ap (λ (xs : List ℕ). at xs place) (unit-part net shaped i below)
-      ∙ set-at-place (unitAt net i) (shaped .unit i below) destination (omega (arith, counted))
-
-  -- The units in it are the successors.
+  -- The units in the set of unit i are its successors.
   units-onward : unitsIn (at words 0) (setAt words destination i) ≡ successors (unitAt net i) destination
   unfolding successors successorSet
   units-onward =
-      rw (set-in-place, ← counted) (units-of-bits (unitAt net i .count) (isSuccessor (unitAt net i) destination))
+      rw (
+        set-in-place words bytes fit destination i aimed inside,
+        ← counted words bytes fit destination i aimed inside,
+      )
+      (units-of-bits (unitAt net i .count) (isSuccessor (unitAt net i) destination))
 
   -- It is 0 exactly where there is none.
   none-onward : eqb (length (successors (unitAt net i) destination)) 0 ≡ eqb (setAt words destination i) 0
   unfolding successors successorSet
-  none-onward = rw set-in-place (none-alike (unitAt net i .count) (isSuccessor (unitAt net i) destination))
+  none-onward =
+      rw (set-in-place words bytes fit destination i aimed inside)
+      (none-alike (unitAt net i .count) (isSuccessor (unitAt net i) destination))
 
 module _ (net : Network) (destination i : ℕ) (choices : List ℕ) where
   -- The successors of unit i.

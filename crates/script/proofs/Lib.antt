@@ -1,4 +1,5 @@
 -- Laws of the script language, and the proofs of its functions.
+pub mod Fates
 pub mod OneOutput
 pub mod ReadBack
 pub mod Room

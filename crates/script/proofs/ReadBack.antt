@@ -16,7 +16,7 @@ use Rattle.ground.proofs.Rows.{below-suc, every-of}
 use Rattle.ground.proofs.Tests.{both-of, either-left, either-right, not-of-false, less-or-not}
 use Rattle.lines.specs.Words.{digitLimit, isDigit, isDecimal, valueTo, valueOf}
 use Rattle.lines.proofs.Decimals.{Digit, value-more, value-none}
-use Rattle.texts.specs.Texts.{decimalRoom, digitsOf, decimalOf}
+use Rattle.texts.specs.Texts.{decimalRoom, digitsOf, decimalOf, longRoom, longDecimalOf}
 use Rattle.texts.proofs.Digits.{digits-one, digits-more, digits-count, digits-few}
 
 -- The number of the first digits is the same whatever follows them.
@@ -87,6 +87,10 @@ reads-digits (suc places) number l =
 -- What is printed of a number is read as that number.
 pub decimal-value : (number : ℕ) → number < 10 ^ decimalRoom → valueOf (decimalOf number) ≡ number
 decimal-value number l = reads-digits (decimalRoom - 1) number l .value
+
+-- So is what is printed of a figure, which may pass 32 bits.
+pub figure-value : (number : ℕ) → number < 10 ^ longRoom → valueOf (longDecimalOf number) ≡ number
+figure-value number l = reads-digits (longRoom - 1) number l .value
 
 -- What is printed of a number below 10 ^ digitLimit is a decimal: not too many digits, without leading zeros.
 pub decimal-printed : (number : ℕ) → number < 10 ^ digitLimit → isDecimal (decimalOf number) ≡ true

@@ -18,16 +18,19 @@ use Rattle.rules.specs.NetworkTable.{networkRefusal, freshNetworkRefusal}
 use Rattle.rules.specs.Tables.{networkFrom, fitTables}
 use Rattle.rules.specs.Unit.{Unit, isActive, ownDistance, isSuccessor}
 use Rattle.rules.proofs.Fit.{FitNetwork, fit-tables-of}
-use Rattle.lines.specs.Commands.{commandOf}
+use Rattle.frames.specs.Meter.{MeterCall, enters, moves, drops, Fate, asHeld, asDelivered, asDropped, fate}
+use Rattle.frames.specs.MeterTable.{meterFrom, meterRefusal}
 use Rattle.lines.specs.declared.Command.{Command}
-use Rattle.lines.specs.declared.Command.the-variants.{Units, Up, Cost, Down, Deliver, Show, Bad}
+use Rattle.lines.specs.declared.Command.the-variants.{Units, Up, Cost, Down, Deliver, Show, Enter, Move, Drop, Page, Bad}
 use Rattle.texts.specs.Printed.{okLine, refusedLine, stateLine, lineRoom}
 use Rattle.slices.specs.Putting.{usedAfter, putAfter}
-use Rattle.texts.proofs.Lengths.{state-most, pair-most, refused-most}
+use Rattle.texts.proofs.Lengths.{state-most, pair-most, refused-most, held-most}
 use Rattle.slices.proofs.Putting.{put-laid}
 use Rattle.listing.specs.Shown.{pairLines, unitLines, shown, showText}
 use Rattle.listing.proofs.ShownUnits.{lineTo}
-use Rattle.script.specs.Answers.{verdict, printed, answerText, answerRoom}
+use Rattle.paging.specs.Page.{pageText}
+use Rattle.paging.proofs.PageRoom.{page-most}
+use Rattle.script.specs.Answers.{verdict, fateText, frameVerdict, printed, commandWith, answerText, answerRoom}
 
 -- A unit's lines are no more than a line for each unit: the line of its state stands for that of the way to itself.
 lines-most : (u : Unit) (i : ℕ) → i < u .count → u .count ≤ unitLimit → length (unitLines i u) ≤ unitLimit * lineRoom
@@ -79,20 +82,39 @@ verdict-most refusal =
     (λ t. omega arith)
     (λ t. omega (arith, refused-most refusal))
 
+-- What a call of a meter prints.
+fate-most : (became : Fate) → length (fateText became) ≤ answerRoom
+fate-most (asHeld place) = omega (arith, held-most place)
+fate-most asDelivered = omega arith
+fate-most asDropped = omega arith
+
+frame-most : (words bytes meter : List ℕ) (call : MeterCall) → length (frameVerdict words bytes meter call) ≤ answerRoom
+frame-most words bytes meter call =
+    let refusal = meterRefusal words bytes meter call in
+    by-choice (λ (text : List ℕ). length text ≤ answerRoom) (eqb refusal accepted) (fateText (fate (meterFrom meter) call))
+    (refusedLine refusal)
+    (λ t. fate-most (fate (meterFrom meter) call))
+    (λ t. omega (arith, refused-most refusal))
+
 -- Whatever a command prints.
-pub printed-most : (words bytes : List ℕ) (command : Command) → length (printed words bytes command) ≤ answerRoom
+pub printed-most : (words bytes meter : List ℕ) (command : Command) → length (printed words bytes meter command) ≤ answerRoom
 unfolding printed
-printed-most words bytes (Units n) = verdict-most (freshNetworkRefusal words bytes n)
-printed-most words bytes (Up a b ca cb) = verdict-most (networkRefusal words bytes (up a b ca cb))
-printed-most words bytes (Cost a b c) = verdict-most (networkRefusal words bytes (cost a b c))
-printed-most words bytes (Down a b) = verdict-most (networkRefusal words bytes (down a b))
-printed-most words bytes (Deliver a b) = verdict-most (networkRefusal words bytes (deliver a b))
-printed-most words bytes Show = show-most words bytes
-printed-most words bytes Bad = omega arith
+printed-most words bytes meter (Units n) = verdict-most (freshNetworkRefusal words bytes n)
+printed-most words bytes meter (Up a b ca cb) = verdict-most (networkRefusal words bytes (up a b ca cb))
+printed-most words bytes meter (Cost a b c) = verdict-most (networkRefusal words bytes (cost a b c))
+printed-most words bytes meter (Down a b) = verdict-most (networkRefusal words bytes (down a b))
+printed-most words bytes meter (Deliver a b) = verdict-most (networkRefusal words bytes (deliver a b))
+printed-most words bytes meter Show = show-most words bytes
+printed-most words bytes meter (Enter size unit destination) = frame-most words bytes meter (enters size unit destination)
+printed-most words bytes meter (Move place unit) = frame-most words bytes meter (moves place unit)
+printed-most words bytes meter (Drop place) = frame-most words bytes meter (drops place)
+printed-most words bytes meter Page = omega (arith, page-most words bytes meter)
+printed-most words bytes meter Bad = omega arith
 
 -- So where the buffer has that room left, what a line prints is laid there whole.
-pub answer-laid : (words bytes line out : List ℕ) (used : ℕ) → used + answerRoom ≤ length out
-    → let text = answerText words bytes line in
+pub answer-laid : (words bytes meter line out : List ℕ) (used : ℕ) → used + answerRoom ≤ length out
+    → let text = answerText words bytes meter line in
     (usedAfter used text out ≡ used + length text) × (putAfter used text out ≡ laidAfter used text out)
-answer-laid words bytes line out used room =
-    put-laid out (answerText words bytes line) used (omega (arith, printed-most words bytes (commandOf line))) (refl, refl)
+answer-laid words bytes meter line out used room =
+    put-laid out (answerText words bytes meter line) used
+    (omega (arith, printed-most words bytes meter (commandWith meter line))) (refl, refl)

@@ -37,7 +37,7 @@ module _ (lent : Lent) (s : Session) (keeps : Keeps lent s) (byte : ℕ) where
   unfolding answered byteText
   took-newline ready ends =
       let line = take (lent .held) (lent .line) in
-      let laid = answer-laid (lent .words) (lent .bytes) line (lent .out) (lent .used) (ready-room lent ready) in
+      let laid = answer-laid (lent .words) (lent .bytes) (lent .meter) line (lent .out) (lent .used) (ready-room lent ready) in
       record {
         keeps = keeps-newline lent s keeps byte ends;
         put = rw ends (put-as (lent .out) (lent .used) (held-text lent s keeps) (refl, refl));

@@ -28,7 +28,7 @@ unfolding answered kept putAfter
 byte-within lent byte =
     by-choice (Within lent) (eqb byte newline) (answered lent) (kept lent byte)
     (λ ends.
-    let text = answerText (lent .words) (lent .bytes) (take (lent .held) (lent .line)) in
+    let text = answerText (lent .words) (lent .bytes) (lent .meter) (take (lent .held) (lent .line)) in
     (omega arith, length-sets (lent .out) (lent .used) text))
     (λ other. (omega arith, refl))
 
@@ -49,14 +49,15 @@ unfolding fed
 fed-full [] lent full = refl
 fed-full (byte ∷ input) lent full = if-false (isReady lent) _ lent full
 
-module _ (words bytes line : List ℕ) (held : ℕ) (chunk : List ℕ) (place : ℕ) (out : List ℕ) (used : ℕ)
-    (words′ bytes′ line′ out′ : List ℕ) (reached : Reached) where
+module _ (words bytes meter line : List ℕ) (held : ℕ) (chunk : List ℕ) (place : ℕ) (out : List ℕ) (used : ℕ)
+    (words′ bytes′ meter′ line′ out′ : List ℕ) (reached : Reached) where
   -- What is lent now.
   abbrev lentNow : Lent
   lentNow =
       record {
         words = words′;
         bytes = bytes′;
+        meter = meter′;
         line = line′;
         held = reached .held;
         out = out′;
@@ -65,7 +66,7 @@ module _ (words bytes line : List ℕ) (held : ℕ) (chunk : List ℕ) (place : 
       }
 
   abbrev all : Lent
-  all = feeding words bytes line held chunk place out used
+  all = feeding words bytes meter line held chunk place out used
 
   -- It is what was to come.
   abbrev pub Done : Type 0
@@ -73,12 +74,22 @@ module _ (words bytes line : List ℕ) (held : ℕ) (chunk : List ℕ) (place : 
       (reached ≡ reachedIn all)
       × ((words′ ≡ all .words)
       × ((bytes′ ≡ all .bytes)
-      × ((line′ ≡ all .line) × ((out′ ≡ all .out) × (reached .used ≤ max used (length out′))))))
+      × ((meter′ ≡ all .meter)
+      × ((line′ ≡ all .line) × ((out′ ≡ all .out) × (reached .used ≤ max used (length out′)))))))
 
   done-is : lentNow ≡ all → Done
   done-is e =
       let lent : Lent =
-      record { words = words; bytes = bytes; line = line; held = held; out = out; used = used; place = place } in
+      record {
+        words = words;
+        bytes = bytes;
+        meter = meter;
+        line = line;
+        held = held;
+        out = out;
+        used = used;
+        place = place;
+      } in
       let within = fed-within (drop place chunk) lent in
       let same : reached .used ≡ all .used = ap (λ l. l .used) e in
       let long : length out′ ≡ length (all .out) = ap (λ l. length (l .out)) e in (
@@ -88,17 +99,14 @@ module _ (words bytes line : List ℕ) (held : ℕ) (chunk : List ℕ) (place : 
           (
             ap (λ l. l .bytes) e,
             (
-              ap (λ l. l .line) e,
-              (
-                ap (λ l. l .out) e,
-                omega (arith, within .0, within .1),
-              ),
+              ap (λ l. l .meter) e,
+              (ap (λ l. l .line) e, (ap (λ l. l .out) e, omega (arith, within .0, within .1))),
             ),
           ),
         ),
       )
 
-  module _ (same : feeding words′ bytes′ line′ (reached .held) chunk (reached .place) out′ (reached .used) ≡ all) where
+  module _ (same : feeding words′ bytes′ meter′ line′ (reached .held) chunk (reached .place) out′ (reached .used) ≡ all) where
     pub done-full : {goes : Bool} → goes ≡ goesOn (length line′) (reached .held) (length out′) (reached .used) → goes ≡ false
         → Done
     done-full told full = done-is (sym (fed-full (drop (reached .place) chunk) lentNow (sym told ∙ full)) ∙ same)
@@ -113,15 +121,16 @@ unfolding endOf
 end-some held some = rw (ne-eqb held 0 some)
 
 -- The end of the input: no byte is held, or the line is ended by a newline.
-module _ (words bytes line : List ℕ) (held : ℕ) (out : List ℕ) (used : ℕ) where
+module _ (words bytes meter line : List ℕ) (held : ℕ) (out : List ℕ) (used : ℕ) where
   pub finish-none : held ≡ 0
-      → Done words bytes line held (endOf held) 0 out used words bytes line out (record { place = 0; held = held; used = used })
+      → Done words bytes meter line held (endOf held) 0 out used words bytes meter line out
+      (record { place = 0; held = held; used = used })
   unfolding endOf
   finish-none none =
-      done-whole words bytes line held (endOf held) 0 out used words bytes line out _ refl
+      done-whole words bytes meter line held (endOf held) 0 out used words bytes meter line out _ refl
       (rw (eq-eqb held 0 none) (omega arith))
 
-  pub finish-some : held ≢ 0 → {words′ bytes′ line′ out′ : List ℕ} {reached : Reached}
-      → Done words bytes line held (newline ∷ []) 0 out used words′ bytes′ line′ out′ reached
-      → Done words bytes line held (endOf held) 0 out used words′ bytes′ line′ out′ reached
+  pub finish-some : held ≢ 0 → {words′ bytes′ meter′ line′ out′ : List ℕ} {reached : Reached}
+      → Done words bytes meter line held (newline ∷ []) 0 out used words′ bytes′ meter′ line′ out′ reached
+      → Done words bytes meter line held (endOf held) 0 out used words′ bytes′ meter′ line′ out′ reached
   finish-some some done = rw (end-some held some) done

@@ -10,16 +10,16 @@ use lib.ListN.{length, take, set, length-append}
 use lib.Seq.{length-sets, set-out, take-all, take-suc-set, take-append-le}
 use Rattle.ground.specs.Bytes.{newline}
 use Rattle.ground.proofs.Tests.{less-or-not}
-use Rattle.lines.specs.Commands.{commandOf}
 use Rattle.lines.proofs.Longest.{kept-command}
 use Rattle.slices.specs.Putting.{usedAfter, putAfter}
-use Rattle.script.specs.Answers.{answerText}
+use Rattle.script.specs.Answers.{isMetered, commandWith, answerText}
 use Rattle.session.specs.Feeding.{Session, thenByte}
 use Rattle.session.specs.Lending.{keptRoom, Lent, answered, kept}
 
 pub record Keeps (lent : Lent) (s : Session) : Type 0 where
   pub words : lent .words ≡ s .words
   pub bytes : lent .bytes ≡ s .bytes
+  pub meter : lent .meter ≡ s .meter
   pub room : length (lent .line) ≡ keptRoom
   pub held : lent .held ≡ min keptRoom (length (s .line))
   pub line : take (lent .held) (lent .line) ≡ take keptRoom (s .line)
@@ -51,12 +51,15 @@ module _ (line whole : List ℕ) (held byte : ℕ) (room : length line ≡ keptR
 
 module _ (lent : Lent) (s : Session) (keeps : Keeps lent s) where
   -- What is held of the line is its command.
-  held-command : commandOf (take (lent .held) (lent .line)) ≡ commandOf (s .line)
-  held-command = ap commandOf (keeps .line) ∙ kept-command keptRoom (omega arith) (s .line)
+  held-command : commandWith (lent .meter) (take (lent .held) (lent .line)) ≡ commandWith (s .meter) (s .line)
+  held-command =
+      ap (commandWith (lent .meter)) (keeps .line)
+      ∙ kept-command keptRoom (omega arith) (isMetered (lent .meter)) (s .line)
+      ∙ ap (λ (meter : List ℕ). commandWith meter (s .line)) (keeps .meter)
 
-  pub held-text : answerText (lent .words) (lent .bytes) (take (lent .held) (lent .line))
-      ≡ answerText (s .words) (s .bytes) (s .line)
-  held-text = rw (held-command, keeps .words, keeps .bytes)
+  pub held-text : answerText (lent .words) (lent .bytes) (lent .meter) (take (lent .held) (lent .line))
+      ≡ answerText (s .words) (s .bytes) (s .meter) (s .line)
+  held-text = rw (held-command, keeps .words, keeps .bytes, keeps .meter)
 
   -- A byte of the line.
   pub keeps-byte : (byte : ℕ) → eqb byte newline ≡ false → Keeps (kept lent byte) (thenByte s byte)
@@ -66,6 +69,7 @@ module _ (lent : Lent) (s : Session) (keeps : Keeps lent s) where
       (record {
         words = keeps .words;
         bytes = keeps .bytes;
+        meter = keeps .meter;
         room = length-sets (lent .line) (lent .held) (byte ∷ []) ∙ keeps .room;
         held = held-more (lent .line) (s .line) (lent .held) byte (keeps .room) (keeps .held) (keeps .line);
         line = line-more (lent .line) (s .line) (lent .held) byte (keeps .room) (keeps .held) (keeps .line);
@@ -79,6 +83,7 @@ module _ (lent : Lent) (s : Session) (keeps : Keeps lent s) where
       (record {
         words = rw (held-command, keeps .words, keeps .bytes);
         bytes = rw (held-command, keeps .words, keeps .bytes);
+        meter = rw (held-command, keeps .words, keeps .bytes, keeps .meter);
         room = keeps .room;
         held = omega arith;
         line = refl;

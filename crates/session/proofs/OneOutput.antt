@@ -4,7 +4,7 @@ use Rattle.ground.proofs.Unique.{agree}
 use Rattle.session.proofs.feed
 use Rattle.session.proofs.finish
 
--- How far it came, the network's tables, the line and the buffer.
+-- How far it came, the network's tables, the meter's, the line and the buffer.
 pub feed-once : OneOutput feed.ended feed.Reads.Learnt
 feed-once _ _ _ _ p q i = (
   agree (p .0) (q .0) i,
@@ -12,7 +12,13 @@ feed-once _ _ _ _ p q i = (
     agree (p .1 .0) (q .1 .0) i,
     (
       agree (p .1 .1 .0) (q .1 .1 .0) i,
-      (agree (p .1 .1 .1 .0) (q .1 .1 .1 .0) i, (_, (_, (_, (agree (p .1 .1 .1 .1 .0) (q .1 .1 .1 .1 .0) i, _))))),
+      (
+        agree (p .1 .1 .1 .0) (q .1 .1 .1 .0) i,
+        (
+          agree (p .1 .1 .1 .1 .0) (q .1 .1 .1 .1 .0) i,
+          (_, (_, (_, (agree (p .1 .1 .1 .1 .1 .0) (q .1 .1 .1 .1 .1 .0) i, _)))),
+        ),
+      ),
     ),
   ),
 )
@@ -24,7 +30,13 @@ finish-once _ _ _ _ p q i = (
     agree (p .1 .0) (q .1 .0) i,
     (
       agree (p .1 .1 .0) (q .1 .1 .0) i,
-      (agree (p .1 .1 .1 .0) (q .1 .1 .1 .0) i, (_, (agree (p .1 .1 .1 .1 .0) (q .1 .1 .1 .1 .0) i, _))),
+      (
+        agree (p .1 .1 .1 .0) (q .1 .1 .1 .0) i,
+        (
+          agree (p .1 .1 .1 .1 .0) (q .1 .1 .1 .1 .0) i,
+          (_, (agree (p .1 .1 .1 .1 .1 .0) (q .1 .1 .1 .1 .1 .0) i, _)),
+        ),
+      ),
     ),
   ),
 )

@@ -17,9 +17,8 @@ use Rattle.ground.specs.Rows.{at}
 use Rattle.ground.proofs.Choices.{by-choice}
 use Rattle.ground.proofs.Lists.{parts}
 use Rattle.ground.proofs.Tests.{yes-or-no, both-of, if-true, if-false}
-use Rattle.lines.specs.Commands.{commandOf}
 use Rattle.slices.specs.Putting.{usedAfter, putAfter}
-use Rattle.script.specs.Answers.{wordsThen, bytesThen, answerText, answerRoom}
+use Rattle.script.specs.Answers.{wordsThen, bytesThen, meterThen, commandWith, answerText, answerRoom}
 use Rattle.session.specs.Lending.{keptRoom, Lent, goesOn, isReady, answered, kept, fed, feeding}
 use Rattle.session.specs.Taking.{Taking, taken}
 
@@ -97,18 +96,29 @@ module _ (line chunk : List ℕ) (held place room used : ℕ) (ready : goesOn (l
   pub turn-further : place < length chunk → place < place′
   turn-further inside = rw (told .1 .0) (taken-further line chunk held place inside)
 
-module _ (words bytes out : List ℕ) (used : ℕ) (chunk : List ℕ) where
+module _ (words bytes meter out : List ℕ) (used : ℕ) (chunk : List ℕ) where
   abbrev lentOf : (line : List ℕ) (held place : ℕ) → Lent
   lentOf line held place =
-      record { words = words; bytes = bytes; line = line; held = held; out = out; used = used; place = place }
+      record {
+        words = words;
+        bytes = bytes;
+        meter = meter;
+        line = line;
+        held = held;
+        out = out;
+        used = used;
+        place = place;
+      }
 
   -- The line is answered, if it is whole.
   abbrev answeredOf : (line : List ℕ) (held place : ℕ) → Lent
   answeredOf line held place =
-      let text = answerText words bytes (take held line) in
+      let text = answerText words bytes meter (take held line) in
+      let command = commandWith meter (take held line) in
       record {
-        words = wordsThen words bytes (commandOf (take held line));
-        bytes = bytesThen words bytes (commandOf (take held line));
+        words = wordsThen words bytes command;
+        bytes = bytesThen words bytes command;
+        meter = meterThen words bytes meter command;
         line = line;
         held = 0;
         out = putAfter used text out;
@@ -172,19 +182,20 @@ module _ (words bytes out : List ℕ) (used : ℕ) (chunk : List ℕ) where
       (told : Told (taken line held place (drop place chunk)) line′ held′ place′ whole) where
     -- The line is not whole,
     pub turn-open : whole ≡ false
-        → feeding words bytes line′ held′ chunk place′ out used ≡ feeding words bytes line held chunk place out used
+        → feeding words bytes meter line′ held′ chunk place′ out used ≡ feeding words bytes meter line held chunk place out used
     turn-open unended =
         ap onward (told-same _ line′ held′ place′ false (told .0, (told .1 .0, (sym unended ∙ told .1 .1 .0, told .1 .1 .1))))
         ∙ sym (line-fed (drop place chunk) line held place refl ready)
 
     -- or it is, and is answered.
-    pub turn-whole : whole ≡ true → {words′ bytes′ out′ : List ℕ} {used′ : ℕ}
-        → (used′ ≡ usedAfter used (answerText words bytes (take held′ line′)) out)
-        × ((out′ ≡ putAfter used (answerText words bytes (take held′ line′)) out)
-        × ((words′ ≡ wordsThen words bytes (commandOf (take held′ line′)))
-        × (bytes′ ≡ bytesThen words bytes (commandOf (take held′ line′)))))
-        → feeding words′ bytes′ line′ 0 chunk place′ out′ used′ ≡ feeding words bytes line held chunk place out used
+    pub turn-whole : whole ≡ true → {words′ bytes′ meter′ out′ : List ℕ} {used′ : ℕ}
+        → (used′ ≡ usedAfter used (answerText words bytes meter (take held′ line′)) out)
+        × ((out′ ≡ putAfter used (answerText words bytes meter (take held′ line′)) out)
+        × ((words′ ≡ wordsThen words bytes (commandWith meter (take held′ line′)))
+        × ((bytes′ ≡ bytesThen words bytes (commandWith meter (take held′ line′)))
+        × (meter′ ≡ meterThen words bytes meter (commandWith meter (take held′ line′))))))
+        → feeding words′ bytes′ meter′ line′ 0 chunk place′ out′ used′ ≡ feeding words bytes meter line held chunk place out used
     turn-whole ends did =
-        rw (did .0, did .1 .0, did .1 .1 .0, did .1 .1 .1)
+        rw (did .0, did .1 .0, did .1 .1 .0, did .1 .1 .1 .0, did .1 .1 .1 .1)
         (ap onward (told-same _ line′ held′ place′ true (told .0, (told .1 .0, (sym ends ∙ told .1 .1 .0, told .1 .1 .1))))
         ∙ sym (line-fed (drop place chunk) line held place refl ready))

@@ -11,11 +11,11 @@ use lib.ListN.{length}
 use Rattle.ground.specs.Bytes.{newline}
 use Rattle.ground.specs.Rows.{joined}
 use Rattle.ground.proofs.Tests.{yes-or-no, if-true, if-false}
-use Rattle.lines.specs.Commands.{commandOf}
-use Rattle.script.specs.Answers.{wordsThen, bytesThen, answerText}
+use Rattle.lines.specs.declared.Command.{Command}
+use Rattle.script.specs.Answers.{wordsThen, bytesThen, meterThen, commandWith, answerText}
 use Rattle.session.specs.Feeding.{Session, start, thenByte, byteText, thenBytes, bytesText}
 use Rattle.session.specs.Feeding.{thenChunks, chunksText, endOf, endText}
-use Rattle.session.specs.Input.{begun, linesOf, linesText, startWords, startBytes, outputOf}
+use Rattle.session.specs.Input.{begun, linesOf, linesText, startWords, startBytes, outputWith}
 use Rattle.session.proofs.Cutting.{chunks-left, chunks-text}
 
 -- The lines of an input of which some bytes came before.
@@ -39,11 +39,12 @@ continued-ended [] lines = refl
 continued-ended (first ∷ front) lines = ap (λ (l : List ℕ). l ∷ lines) (append-nil (first ∷ front))
 
 -- The end of the input, with bytes of a line before it and without.
-end-text : (words bytes line : List ℕ)
-    → endText (record { words = words; bytes = bytes; line = line }) ≡ linesText words bytes (continued line (linesOf []))
+end-text : (words bytes meter line : List ℕ)
+    → endText (record { words = words; bytes = bytes; meter = meter; line = line })
+    ≡ linesText words bytes meter (continued line (linesOf []))
 unfolding endOf bytesText byteText continued begun linesOf linesText
-end-text words bytes [] = refl
-end-text words bytes (byte ∷ line) = rw (ne-eqb (suc (length line)) 0 (λ e. omega arith))
+end-text words bytes meter [] = refl
+end-text words bytes meter (byte ∷ line) = rw (ne-eqb (suc (length line)) 0 (λ e. omega arith))
 
 -- One byte, and then the others.
 byte-first : (s next : Session) (byte : ℕ) (text input : List ℕ) → thenByte s byte ≡ next → byteText s byte ≡ text
@@ -56,28 +57,29 @@ byte-first s next byte text input e f =
     ∙ ap (λ (t : List ℕ). t ++ (bytesText next input ++ endText (thenBytes next input))) f
 
 -- A newline, and any other byte.
-module _ (words bytes line : List ℕ) (byte : ℕ) where
+module _ (words bytes meter line : List ℕ) (byte : ℕ) where
   abbrev here : Session
-  here = record { words = words; bytes = bytes; line = line }
+  here = record { words = words; bytes = bytes; meter = meter; line = line }
 
   abbrev after : Session
   after =
       record {
-        words = wordsThen words bytes (commandOf line);
-        bytes = bytesThen words bytes (commandOf line);
+        words = wordsThen words bytes (commandWith meter line);
+        bytes = bytesThen words bytes (commandWith meter line);
+        meter = meterThen words bytes meter (commandWith meter line);
         line = [];
       }
 
   abbrev longer : Session
-  longer = record { words = words; bytes = bytes; line = line ++ (byte ∷ []) }
+  longer = record { words = words; bytes = bytes; meter = meter; line = line ++ (byte ∷ []) }
 
   then-newline : eqb byte newline ≡ true → thenByte here byte ≡ after
   unfolding thenByte
   then-newline t = if-true (eqb byte newline) after longer t
 
-  text-newline : eqb byte newline ≡ true → byteText here byte ≡ answerText words bytes line
+  text-newline : eqb byte newline ≡ true → byteText here byte ≡ answerText words bytes meter line
   unfolding byteText
-  text-newline t = if-true (eqb byte newline) (answerText words bytes line) [] t
+  text-newline t = if-true (eqb byte newline) (answerText words bytes meter line) [] t
 
   then-other : eqb byte newline ≡ false → thenByte here byte ≡ longer
   unfolding thenByte
@@ -85,57 +87,62 @@ module _ (words bytes line : List ℕ) (byte : ℕ) where
 
   text-other : eqb byte newline ≡ false → byteText here byte ≡ []
   unfolding byteText
-  text-other f = if-false (eqb byte newline) (answerText words bytes line) [] f
+  text-other f = if-false (eqb byte newline) (answerText words bytes meter line) [] f
 
   lines-newline : (input : List ℕ) → eqb byte newline ≡ true
-      → linesText words bytes (continued line (linesOf (byte ∷ input)))
-      ≡ answerText words bytes line ++ linesText (after .words) (after .bytes) (linesOf input)
+      → linesText words bytes meter (continued line (linesOf (byte ∷ input)))
+      ≡ answerText words bytes meter line ++ linesText (after .words) (after .bytes) (after .meter) (linesOf input)
   unfolding linesOf linesText
   lines-newline input t =
-      ap (λ (lines : List (List ℕ)). linesText words bytes (continued line lines))
+      ap (λ (lines : List (List ℕ)). linesText words bytes meter (continued line lines))
       (if-true (eqb byte newline) ([] ∷ linesOf input) (begun (byte ∷ []) (linesOf input)) t)
-      ∙ ap (linesText words bytes) (continued-ended line (linesOf input))
+      ∙ ap (linesText words bytes meter) (continued-ended line (linesOf input))
 
   lines-other : (input : List ℕ) → eqb byte newline ≡ false
-      → linesText words bytes (continued line (linesOf (byte ∷ input)))
-      ≡ linesText words bytes (continued (line ++ (byte ∷ [])) (linesOf input))
+      → linesText words bytes meter (continued line (linesOf (byte ∷ input)))
+      ≡ linesText words bytes meter (continued (line ++ (byte ∷ [])) (linesOf input))
   unfolding linesOf
   lines-other input f =
-      ap (λ (lines : List (List ℕ)). linesText words bytes (continued line lines))
+      ap (λ (lines : List (List ℕ)). linesText words bytes meter (continued line lines))
       (if-false (eqb byte newline) ([] ∷ linesOf input) (begun (byte ∷ []) (linesOf input)) f)
-      ∙ ap (linesText words bytes) (sym (continued-more line byte (linesOf input)))
+      ∙ ap (linesText words bytes meter) (sym (continued-more line byte (linesOf input)))
 
 -- From any session: what is fed and the end print the lines that its bytes go on with.
-lines-text : (input words bytes line : List ℕ)
-    → bytesText (record { words = words; bytes = bytes; line = line }) input
-    ++ endText (thenBytes (record { words = words; bytes = bytes; line = line }) input)
-    ≡ linesText words bytes (continued line (linesOf input))
+lines-text : (input words bytes meter line : List ℕ)
+    → bytesText (record { words = words; bytes = bytes; meter = meter; line = line }) input
+    ++ endText (thenBytes (record { words = words; bytes = bytes; meter = meter; line = line }) input)
+    ≡ linesText words bytes meter (continued line (linesOf input))
 unfolding bytesText thenBytes continued
-lines-text [] words bytes line = end-text words bytes line
-lines-text (byte ∷ input) words bytes line =
+lines-text [] words bytes meter line = end-text words bytes meter line
+lines-text (byte ∷ input) words bytes meter line =
     ⊎-elim
     (λ t.
-    byte-first s (after words bytes line byte) byte _ input (then-newline words bytes line byte t)
-    (text-newline words bytes line byte t)
-    ∙ ap (λ (l : List ℕ). answerText words bytes line ++ l)
-    (lines-text input (wordsThen words bytes (commandOf line)) (bytesThen words bytes (commandOf line)) [])
-    ∙ sym (lines-newline words bytes line byte input t))
+    byte-first s (after words bytes meter line byte) byte _ input (then-newline words bytes meter line byte t)
+    (text-newline words bytes meter line byte t)
+    ∙ ap (λ (l : List ℕ). answerText words bytes meter line ++ l)
+    (lines-text input (wordsThen words bytes command) (bytesThen words bytes command) (meterThen words bytes meter command) [])
+    ∙ sym (lines-newline words bytes meter line byte input t))
     (λ f.
-    byte-first s (longer words bytes line byte) byte [] input (then-other words bytes line byte f)
-    (text-other words bytes line byte f)
-    ∙ lines-text input words bytes (line ++ (byte ∷ []))
-    ∙ sym (lines-other words bytes line byte input f))
+    byte-first s (longer words bytes meter line byte) byte [] input (then-other words bytes meter line byte f)
+    (text-other words bytes meter line byte f)
+    ∙ lines-text input words bytes meter (line ++ (byte ∷ []))
+    ∙ sym (lines-other words bytes meter line byte input f))
     (yes-or-no (eqb byte newline))
   where
     s : Session
-    s = record { words = words; bytes = bytes; line = line }
+    s = record { words = words; bytes = bytes; meter = meter; line = line }
+
+    command : Command
+    command = commandWith meter line
 
 -- So a whole input that is fed byte by byte, and then ended, prints what is to be printed,
-pub fed-output : (input : List ℕ) → bytesText start input ++ endText (thenBytes start input) ≡ outputOf input
+pub fed-output : (meter input : List ℕ)
+    → bytesText (start meter) input ++ endText (thenBytes (start meter) input) ≡ outputWith meter input
 unfolding continued
-fed-output input = lines-text input startWords startBytes []
+fed-output meter input = lines-text input startWords startBytes meter []
 
 -- and so it does however it is cut into chunks.
-pub cut-output : (chunks : List (List ℕ))
-    → chunksText start chunks ++ endText (thenChunks start chunks) ≡ outputOf (joined chunks)
-cut-output chunks = rw (chunks-text start chunks, chunks-left start chunks) (fed-output (joined chunks))
+pub cut-output : (meter : List ℕ) (chunks : List (List ℕ))
+    → chunksText (start meter) chunks ++ endText (thenChunks (start meter) chunks) ≡ outputWith meter (joined chunks)
+cut-output meter chunks =
+    rw (chunks-text (start meter) chunks, chunks-left (start meter) chunks) (fed-output meter (joined chunks))

@@ -17,7 +17,7 @@ use Rattle.slices.specs.Putting.{putAfter}
 use Rattle.slices.proofs.Putting.{Put, put-laid}
 use Rattle.script.specs.Answers.{answerRoom}
 use Rattle.session.specs.Feeding.{Session, start, thenBytes, bytesText, endOf, endText}
-use Rattle.session.specs.Input.{startWords, startBytes, outputOf}
+use Rattle.session.specs.Input.{startWords, startBytes, outputWith}
 use Rattle.session.specs.Lending.{keptRoom, Lent, goesOn, isReady, fed}
 use Rattle.session.specs.Writing.{lentAt, called, writtenBy, leftByCalls, writtenByCalls, writtenByChunks}
 use Rattle.session.proofs.Cutting.{then-append, text-append}
@@ -43,7 +43,14 @@ room-kept out text used put = ap length (put .1) ∙ length-sets out used text
 module _ (lent : Lent) (s : Session) (keeps : Keeps lent s) (room : answerRoom ≤ length (lent .out)) where
   keeps-at : (place : ℕ) → Keeps (lentAt lent place) s
   keeps-at place =
-      record { words = keeps .words; bytes = keeps .bytes; room = keeps .room; held = keeps .held; line = keeps .line }
+      record {
+        words = keeps .words;
+        bytes = keeps .bytes;
+        meter = keeps .meter;
+        room = keeps .room;
+        held = keeps .held;
+        line = keeps .line;
+      }
 
   ready-at : (place : ℕ) → isReady (lentAt lent place) ≡ true
   unfolding goesOn
@@ -153,12 +160,22 @@ chunks-wrote (chunk ∷ chunks) lent s keeps room =
     ∙ ap₂ (λ (l : List ℕ) (n : Session). l ++ endText n)
     (sym (text-append s chunk (joined chunks))) (sym (then-append s chunk (joined chunks)))
 
--- So the program writes what its input prints, however the reads cut it.
-pub program-output : (line out : List ℕ) → length line ≡ keptRoom → answerRoom ≤ length out → (chunks : List (List ℕ))
+-- So a program writes what its input prints from the meter that it lends, however the reads cut it.
+pub program-output : (meter line out : List ℕ) → length line ≡ keptRoom → answerRoom ≤ length out → (chunks : List (List ℕ))
     → writtenByChunks
-    (record { words = startWords; bytes = startBytes; line = line; held = 0; out = out; used = 0; place = 0 }) chunks
-    ≡ outputOf (joined chunks)
-program-output line out kept room chunks =
-    chunks-wrote chunks _ start
-    (record { words = refl; bytes = refl; room = kept; held = omega arith; line = refl }) room
-    ∙ fed-output (joined chunks)
+    (record {
+      words = startWords;
+      bytes = startBytes;
+      meter = meter;
+      line = line;
+      held = 0;
+      out = out;
+      used = 0;
+      place = 0;
+    })
+    chunks
+    ≡ outputWith meter (joined chunks)
+program-output meter line out kept room chunks =
+    chunks-wrote chunks _ (start meter)
+    (record { words = refl; bytes = refl; meter = refl; room = kept; held = omega arith; line = refl }) room
+    ∙ fed-output meter (joined chunks)

@@ -6,29 +6,35 @@ use lib.Dec.{eqb}
 use lib.ListN.{length}
 use Rattle.ground.specs.Bytes.{newline}
 use Rattle.ground.specs.Choice.{if_then_else_}
-use Rattle.lines.specs.Commands.{commandOf}
-use Rattle.script.specs.Answers.{wordsThen, bytesThen, answerText}
+use Rattle.script.specs.Answers.{wordsThen, bytesThen, meterThen, commandWith, answerText}
 use Rattle.session.specs.Input.{startWords, startBytes}
 
--- The network's two tables, and the line so far.
+-- The network's two tables, the meter's, and the line so far.
 pub record Session : Type 0 where
   pub words : List ℕ
   pub bytes : List ℕ
+  pub meter : List ℕ
   pub line : List ℕ
 
-abbrev pub start : Session
-start = record { words = startWords; bytes = startBytes; line = [] }
+abbrev pub start : (meter : List ℕ) → Session
+start meter = record { words = startWords; bytes = startBytes; meter = meter; line = [] }
 
 -- A newline ends the line, which is answered; any other byte is one more of it.
 unfoldable pub thenByte : Session → (byte : ℕ) → Session
 thenByte s byte =
-    let command = commandOf (s .line) in
+    let command = commandWith (s .meter) (s .line) in
     if eqb byte newline
-    then record { words = wordsThen (s .words) (s .bytes) command; bytes = bytesThen (s .words) (s .bytes) command; line = [] }
-    else record { words = s .words; bytes = s .bytes; line = s .line ++ (byte ∷ []) }
+    then
+    record {
+      words = wordsThen (s .words) (s .bytes) command;
+      bytes = bytesThen (s .words) (s .bytes) command;
+      meter = meterThen (s .words) (s .bytes) (s .meter) command;
+      line = [];
+    }
+    else record { words = s .words; bytes = s .bytes; meter = s .meter; line = s .line ++ (byte ∷ []) }
 
 unfoldable pub byteText : Session → (byte : ℕ) → List ℕ
-byteText s byte = if eqb byte newline then answerText (s .words) (s .bytes) (s .line) else []
+byteText s byte = if eqb byte newline then answerText (s .words) (s .bytes) (s .meter) (s .line) else []
 
 unfoldable pub thenBytes : Session → (input : List ℕ) → Session
 thenBytes s [] = s

@@ -6,9 +6,8 @@ use lib.Dec.{eqb, leb}
 use lib.ListN.{length, take, drop}
 use Rattle.ground.specs.Bytes.{newline}
 use Rattle.ground.specs.Choice.{if_then_else_}
-use Rattle.lines.specs.Commands.{commandOf}
 use Rattle.slices.specs.Putting.{usedAfter, putAfter}
-use Rattle.script.specs.Answers.{wordsThen, bytesThen, answerText, answerRoom}
+use Rattle.script.specs.Answers.{wordsThen, bytesThen, meterThen, commandWith, answerText, answerRoom}
 use Rattle.session.specs.Feeding.{endOf}
 use Rattle.session.specs.declared.Reached.{Reached}
 
@@ -16,11 +15,12 @@ use Rattle.session.specs.declared.Reached.{Reached}
 abbrev pub keptRoom : ℕ
 keptRoom = 64
 
--- The network's tables; the room for a line, with the bytes held of it; the buffer for answers, with the bytes used of it;
--- and the place of the chunk that is next.
+-- The network's tables and the meter's; the room for a line, with the bytes held of it; the buffer for answers, with the bytes
+-- used of it; and the place of the chunk that is next.
 pub record Lent : Type 0 where
   pub words : List ℕ
   pub bytes : List ℕ
+  pub meter : List ℕ
   pub line : List ℕ
   pub held : ℕ
   pub out : List ℕ
@@ -42,10 +42,12 @@ isReady lent = goesOn (length (lent .line)) (lent .held) (length (lent .out)) (l
 unfoldable pub answered : Lent → Lent
 answered lent =
     let line = take (lent .held) (lent .line) in
-    let text = answerText (lent .words) (lent .bytes) line in
+    let text = answerText (lent .words) (lent .bytes) (lent .meter) line in
+    let command = commandWith (lent .meter) line in
     record {
-      words = wordsThen (lent .words) (lent .bytes) (commandOf line);
-      bytes = bytesThen (lent .words) (lent .bytes) (commandOf line);
+      words = wordsThen (lent .words) (lent .bytes) command;
+      bytes = bytesThen (lent .words) (lent .bytes) command;
+      meter = meterThen (lent .words) (lent .bytes) (lent .meter) command;
       line = lent .line;
       held = 0;
       out = putAfter (lent .used) text (lent .out);
@@ -59,6 +61,7 @@ kept lent byte =
     record {
       words = lent .words;
       bytes = lent .bytes;
+      meter = lent .meter;
       line = putAfter (lent .held) (byte ∷ []) (lent .line);
       held = usedAfter (lent .held) (byte ∷ []) (lent .line);
       out = lent .out;
@@ -73,11 +76,21 @@ fed lent (byte ∷ input) =
     if isReady lent then fed (if eqb byte newline then answered lent else kept lent byte) input else lent
 
 -- A call with a chunk and the place to go on from, and that at the end of the input.
-abbrev pub feeding : (words bytes line : List ℕ) (held : ℕ) (chunk : List ℕ) (place : ℕ) (out : List ℕ) (used : ℕ) → Lent
-feeding words bytes line held chunk place out used =
-    fed (record { words = words; bytes = bytes; line = line; held = held; out = out; used = used; place = place })
+abbrev pub feeding : (words bytes meter line : List ℕ) (held : ℕ) (chunk : List ℕ) (place : ℕ) (out : List ℕ) (used : ℕ) → Lent
+feeding words bytes meter line held chunk place out used =
+    fed
+    (record {
+      words = words;
+      bytes = bytes;
+      meter = meter;
+      line = line;
+      held = held;
+      out = out;
+      used = used;
+      place = place;
+    })
     (drop place chunk)
 
-abbrev pub finishing : (words bytes line : List ℕ) (held : ℕ) (out : List ℕ) (used : ℕ) → Lent
-finishing words bytes line held out used =
-    feeding words bytes line held (endOf held) 0 out used
+abbrev pub finishing : (words bytes meter line : List ℕ) (held : ℕ) (out : List ℕ) (used : ℕ) → Lent
+finishing words bytes meter line held out used =
+    feeding words bytes meter line held (endOf held) 0 out used

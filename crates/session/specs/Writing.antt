@@ -12,6 +12,7 @@ lentAt lent place =
     record {
       words = lent .words;
       bytes = lent .bytes;
+      meter = lent .meter;
       line = lent .line;
       held = lent .held;
       out = lent .out;

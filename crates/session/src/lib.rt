@@ -1,10 +1,10 @@
 // A session of the script program: takes its input in chunks, as they come, and puts the answers into a lent buffer.
 //
-// Between two calls a session is the network's two tables and the line so far, of which no more than KEPT_ROOM bytes are kept:
-// no command is longer, so a longer line is as bad as its beginning. `feed` takes bytes of a chunk from a place on. It stops
-// at the end of the chunk, and before that only where an answer might not find room: its caller then writes the
-// answers out, and goes on from there. `finish` answers a last line without a newline. However the input is cut into chunks,
-// the answers are those of the whole input.
+// Between two calls a session is the network's two tables, the meter's, and the line so far, of which no more than KEPT_ROOM
+// bytes are kept: no command is longer, so a longer line is as bad as its beginning. Without a meter, a slice of no numbers,
+// there are no commands of one. `feed` takes bytes of a chunk from a place on. It stops at the end of the chunk, and before that
+// only where an answer might not find room: its caller then writes the answers out, and goes on from there. `finish` answers a
+// last line without a newline. However the input is cut into chunks, the answers are those of the whole input.
 ghost use Prim.Native.Nat.{_≤_, _<_, max};
 ghost use mathlib.Core.Bool.{true};
 ghost use mathlib.Core.Path.{_≡_};
@@ -80,13 +80,14 @@ fn take_line(line: &mut [u8], before: usize, chunk: &[u8], from: usize) -> Taken
 fn turn(
     words: &mut [u32],
     queues: &mut [u8],
+    meter: &mut [u32],
     line: &mut [u8],
     chunk: &[u8],
     out: &mut [u8],
     reached: Reached,
 ) -> Reached
     requires { ⌜ (reached .place < length (now chunk)) × (goesOn (length (now line)) (reached .held) (length (now out)) (reached .used) ≡ true) ⌝ }
-    ensures same { λ r. ⌜ feeding (now (words .exit)) (now (queues .exit)) (now (line .exit)) (r .held) (now (chunk .entry)) (r .place) (now (out .exit)) (r .used) ≡ feeding (now (words .entry)) (now (queues .entry)) (now (line .entry)) (reached .held) (now (chunk .entry)) (reached .place) (now (out .entry)) (reached .used) ⌝ }
+    ensures same { λ r. ⌜ feeding (now (words .exit)) (now (queues .exit)) (now (meter .exit)) (now (line .exit)) (r .held) (now (chunk .entry)) (r .place) (now (out .exit)) (r .used) ≡ feeding (now (words .entry)) (now (queues .entry)) (now (meter .entry)) (now (line .entry)) (reached .held) (now (chunk .entry)) (reached .place) (now (out .entry)) (reached .used) ⌝ }
     ensures further { λ r. ⌜ reached .place < r .place ⌝ }
 {
     let used = reached.used;
@@ -99,7 +100,7 @@ fn turn(
         };
     }
     let held = taken.held;
-    let all = answer::answer(words, queues, &line[..held], out, used);
+    let all = answer::answer(words, queues, meter, &line[..held], out, used);
     Reached {
         place: taken.place,
         held: 0,
@@ -112,6 +113,7 @@ fn turn(
 pub fn feed(
     words: &mut [u32],
     queues: &mut [u8],
+    meter: &mut [u32],
     line: &mut [u8],
     held: usize,
     chunk: &[u8],
@@ -119,11 +121,12 @@ pub fn feed(
     out: &mut [u8],
     used: usize,
 ) -> Reached
-    ensures answer { λ r. ⌜ r ≡ reachedIn (feeding (now (words .entry)) (now (queues .entry)) (now (line .entry)) held (now (chunk .entry)) place (now (out .entry)) used) ⌝ }
-    ensures words { λ r. ⌜ now (words .exit) ≡ feeding (now (words .entry)) (now (queues .entry)) (now (line .entry)) held (now (chunk .entry)) place (now (out .entry)) used .words ⌝ }
-    ensures queues { λ r. ⌜ now (queues .exit) ≡ feeding (now (words .entry)) (now (queues .entry)) (now (line .entry)) held (now (chunk .entry)) place (now (out .entry)) used .bytes ⌝ }
-    ensures line { λ r. ⌜ now (line .exit) ≡ feeding (now (words .entry)) (now (queues .entry)) (now (line .entry)) held (now (chunk .entry)) place (now (out .entry)) used .line ⌝ }
-    ensures out { λ r. ⌜ now (out .exit) ≡ feeding (now (words .entry)) (now (queues .entry)) (now (line .entry)) held (now (chunk .entry)) place (now (out .entry)) used .out ⌝ }
+    ensures answer { λ r. ⌜ r ≡ reachedIn (feeding (now (words .entry)) (now (queues .entry)) (now (meter .entry)) (now (line .entry)) held (now (chunk .entry)) place (now (out .entry)) used) ⌝ }
+    ensures words { λ r. ⌜ now (words .exit) ≡ feeding (now (words .entry)) (now (queues .entry)) (now (meter .entry)) (now (line .entry)) held (now (chunk .entry)) place (now (out .entry)) used .words ⌝ }
+    ensures queues { λ r. ⌜ now (queues .exit) ≡ feeding (now (words .entry)) (now (queues .entry)) (now (meter .entry)) (now (line .entry)) held (now (chunk .entry)) place (now (out .entry)) used .bytes ⌝ }
+    ensures meter { λ r. ⌜ now (meter .exit) ≡ feeding (now (words .entry)) (now (queues .entry)) (now (meter .entry)) (now (line .entry)) held (now (chunk .entry)) place (now (out .entry)) used .meter ⌝ }
+    ensures line { λ r. ⌜ now (line .exit) ≡ feeding (now (words .entry)) (now (queues .entry)) (now (meter .entry)) (now (line .entry)) held (now (chunk .entry)) place (now (out .entry)) used .line ⌝ }
+    ensures out { λ r. ⌜ now (out .exit) ≡ feeding (now (words .entry)) (now (queues .entry)) (now (meter .entry)) (now (line .entry)) held (now (chunk .entry)) place (now (out .entry)) used .out ⌝ }
     ensures inside { λ r. ⌜ r .used ≤ max used (length (now (out .exit))) ⌝ }
 {
     let mut reached = Reached { place, held, used };
@@ -131,7 +134,7 @@ pub fn feed(
         if !goes_on(line.len(), reached.held, out.len(), reached.used) {
             return reached;
         }
-        reached = turn(words, queues, line, chunk, out, reached);
+        reached = turn(words, queues, meter, line, chunk, out, reached);
     }
     reached
 }
@@ -140,16 +143,18 @@ pub fn feed(
 pub fn finish(
     words: &mut [u32],
     queues: &mut [u8],
+    meter: &mut [u32],
     line: &mut [u8],
     held: usize,
     out: &mut [u8],
     used: usize,
 ) -> Reached
-    ensures answer { λ r. ⌜ r ≡ reachedIn (finishing (now (words .entry)) (now (queues .entry)) (now (line .entry)) held (now (out .entry)) used) ⌝ }
-    ensures words { λ r. ⌜ now (words .exit) ≡ finishing (now (words .entry)) (now (queues .entry)) (now (line .entry)) held (now (out .entry)) used .words ⌝ }
-    ensures queues { λ r. ⌜ now (queues .exit) ≡ finishing (now (words .entry)) (now (queues .entry)) (now (line .entry)) held (now (out .entry)) used .bytes ⌝ }
-    ensures line { λ r. ⌜ now (line .exit) ≡ finishing (now (words .entry)) (now (queues .entry)) (now (line .entry)) held (now (out .entry)) used .line ⌝ }
-    ensures out { λ r. ⌜ now (out .exit) ≡ finishing (now (words .entry)) (now (queues .entry)) (now (line .entry)) held (now (out .entry)) used .out ⌝ }
+    ensures answer { λ r. ⌜ r ≡ reachedIn (finishing (now (words .entry)) (now (queues .entry)) (now (meter .entry)) (now (line .entry)) held (now (out .entry)) used) ⌝ }
+    ensures words { λ r. ⌜ now (words .exit) ≡ finishing (now (words .entry)) (now (queues .entry)) (now (meter .entry)) (now (line .entry)) held (now (out .entry)) used .words ⌝ }
+    ensures queues { λ r. ⌜ now (queues .exit) ≡ finishing (now (words .entry)) (now (queues .entry)) (now (meter .entry)) (now (line .entry)) held (now (out .entry)) used .bytes ⌝ }
+    ensures meter { λ r. ⌜ now (meter .exit) ≡ finishing (now (words .entry)) (now (queues .entry)) (now (meter .entry)) (now (line .entry)) held (now (out .entry)) used .meter ⌝ }
+    ensures line { λ r. ⌜ now (line .exit) ≡ finishing (now (words .entry)) (now (queues .entry)) (now (meter .entry)) (now (line .entry)) held (now (out .entry)) used .line ⌝ }
+    ensures out { λ r. ⌜ now (out .exit) ≡ finishing (now (words .entry)) (now (queues .entry)) (now (meter .entry)) (now (line .entry)) held (now (out .entry)) used .out ⌝ }
     ensures inside { λ r. ⌜ r .used ≤ max used (length (now (out .exit))) ⌝ }
 {
     if held == 0 {
@@ -159,5 +164,5 @@ pub fn finish(
             used,
         };
     }
-    feed(words, queues, line, held, b"\n", 0, out, used)
+    feed(words, queues, meter, line, held, b"\n", 0, out, used)
 }

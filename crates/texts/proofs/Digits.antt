@@ -11,7 +11,7 @@ use lib.ListN.{length, set, take, drop, length-append, length-set, length-drop, 
 use lib.Seq.{append-snoc, set-split, drop-at, take-all, length-take-le}
 use Rattle.ground.specs.Bytes.{digitZero}
 use Rattle.ground.proofs.Tests.{less-or-not, if-true, if-false}
-use Rattle.texts.specs.Texts.{digitsOf, decimalOf, decimalRoom}
+use Rattle.texts.specs.Texts.{digitsOf, decimalOf, longDecimalOf, decimalRoom, longRoom}
 
 -- Where a single place is left.
 digits-last : (number : ℕ) → digitsOf zero number ≡ (digitZero + number % 10) ∷ []
@@ -59,17 +59,36 @@ digits-few (suc places) (suc n) number l =
     (λ k. omega (arith, more-long places number k, digits-few places n (number / 10) (omega (arith, pow-suc 10 (suc n)))))
     (less-or-not number 10)
 
+-- More places than a number has digits change nothing.
+digits-enough : (places longer number : ℕ) → places ≤ longer → number < 10 ^ suc places
+    → digitsOf longer number ≡ digitsOf places number
+digits-enough zero longer number h l = digits-one longer number l ∙ sym (digits-one zero number l)
+digits-enough (suc places) zero number h l = absurd (omega arith)
+digits-enough (suc places) (suc longer) number h l =
+    ⊎-elim
+    (λ k. digits-one (suc longer) number k ∙ sym (digits-one (suc places) number k))
+    (λ k.
+    digits-more longer number k
+    ∙ ap (λ (digits : List ℕ). digits ++ ((digitZero + number % 10) ∷ []))
+    (digits-enough places longer (number / 10) (omega arith) (omega (arith, pow-suc 10 (suc places))))
+    ∙ sym (digits-more places number k))
+    (less-or-not number 10)
+
+-- A number of 32 bits has as many digits in either room.
+pub long-decimal : (number : ℕ) → number < 10 ^ decimalRoom → longDecimalOf number ≡ decimalOf number
+long-decimal number l = digits-enough (decimalRoom - 1) (longRoom - 1) number (omega arith) l
+
 -- Digits that are laid from the end of an array on: what is left of the number comes before them.
 pub record Begun (number : ℕ) (digits : List ℕ) (rest first : ℕ) : Type 0 where
   pub below : rest < 10 ^ suc first
-  pub all : decimalOf number ≡ digitsOf first rest ++ drop (suc first) digits
+  pub all : longDecimalOf number ≡ digitsOf first rest ++ drop (suc first) digits
 
 -- At first all is left.
-pub begun-none : (number : ℕ) (digits : List ℕ) → number < 10 ^ decimalRoom → length digits ≡ decimalRoom
-    → Begun number digits number (decimalRoom - 1)
+pub begun-none : (number : ℕ) (digits : List ℕ) → number < 10 ^ longRoom → length digits ≡ longRoom
+    → Begun number digits number (longRoom - 1)
 begun-none number digits l e =
-    let none : drop decimalRoom digits ≡ [] = drop-of-length-le digits {i = decimalRoom} (omega arith) in
-    record { below = l; all = rw none (sym (append-nil (decimalOf number))) }
+    let none : drop longRoom digits ≡ [] = drop-of-length-le digits {i = longRoom} (omega arith) in
+    record { below = l; all = rw none (sym (append-nil (longDecimalOf number))) }
 
 -- A byte that is stored stands before what follows its place.
 drop-stored : (digits : List ℕ) (first byte : ℕ) → first < length digits
@@ -99,9 +118,9 @@ begun-more number digits rest (suc first) begun inside l =
 
 -- The last one is laid, and all that stands from its place on is lent.
 pub begun-all : (number : ℕ) (digits : List ℕ) (rest first byte : ℕ) → Begun number digits rest first
-    → first < decimalRoom → length digits ≡ decimalRoom → rest < 10 → byte ≡ digitZero + rest % 10
-    → take (decimalRoom - first) (drop first (set digits first byte)) ≡ decimalOf number
+    → first < longRoom → length digits ≡ longRoom → rest < 10 → byte ≡ digitZero + rest % 10
+    → take (longRoom - first) (drop first (set digits first byte)) ≡ longDecimalOf number
 begun-all number digits rest first byte begun inside e l is =
-    take-all (decimalRoom - first) (drop first (set digits first byte)) (simp (length-drop, length-set) (omega arith))
+    take-all (longRoom - first) (drop first (set digits first byte)) (simp (length-drop, length-set) (omega arith))
     ∙ drop-stored digits first byte (omega arith)
     ∙ sym (begun .all ∙ rw (digits-one first rest l, ← is))

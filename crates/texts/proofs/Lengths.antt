@@ -9,13 +9,14 @@ use Rattle.ground.specs.Bytes.{newline, space, comma, hyphen}
 use Rattle.ground.specs.Choice.{if_then_else_}
 use Rattle.ground.specs.Limits.{far, unitLimit}
 use Rattle.ground.proofs.Choices.{by-choice}
-use Rattle.texts.specs.Printed.{refusedLine, stateText, stateLine, distanceText, joinedTo, successorsText, pairLine, lineRoom}
-use Rattle.texts.specs.Texts.{decimalRoom, decimalOf}
-use Rattle.texts.specs.Texts.{refusedWord, unitWord, activeWord, passiveWord}
+use Rattle.texts.specs.Printed.{refusedLine, heldLine, figureLine, lineRoom}
+use Rattle.texts.specs.Printed.{stateText, stateLine, distanceText, joinedTo, successorsText, pairLine}
+use Rattle.texts.specs.Texts.{decimalRoom, decimalOf, longRoom, longDecimalOf}
+use Rattle.texts.specs.Texts.{refusedWord, unitWord, activeWord, passiveWord, heldWord}
 use Rattle.texts.proofs.Digits.{digits-count, digits-few}
 
 -- A decimal has room for its digits.
-decimal-most : (number : ℕ) → length (decimalOf number) ≤ decimalRoom
+pub decimal-most : (number : ℕ) → length (decimalOf number) ≤ decimalRoom
 decimal-most number = digits-count (decimalRoom - 1) number .1
 
 -- That of a unit has at most two digits, and a comma may come before them.
@@ -99,3 +100,16 @@ state-most i active =
 pub refused-most : (number : ℕ) → length (refusedLine number) ≤ lineRoom
 refused-most number =
     omega (arith, length-append (refusedWord ++ (space ∷ decimalOf number)) (newline ∷ []), decimal-most number)
+
+-- The line of a frame that is held, and that of a figure.
+pub held-most : (place : ℕ) → length (heldLine place) ≤ lineRoom
+held-most place = omega (arith, length-append (heldWord ++ (space ∷ decimalOf place)) (newline ∷ []), decimal-most place)
+
+pub figure-most : (name : List ℕ) (value : ℕ) → length (figureLine name value) ≤ length name + 2 + longRoom
+figure-most name value =
+    omega (
+      arith,
+      length-append (name ++ (space ∷ longDecimalOf value)) (newline ∷ []),
+      length-append name (space ∷ longDecimalOf value),
+      digits-count (longRoom - 1) value,
+    )

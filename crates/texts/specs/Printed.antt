@@ -8,8 +8,9 @@ use lib.ListN.{length}
 use Rattle.ground.specs.Bytes.{newline, space, comma, hyphen}
 use Rattle.ground.specs.Choice.{if_then_else_}
 use Rattle.ground.specs.Limits.{far}
-use Rattle.texts.specs.Texts.{decimalOf}
+use Rattle.texts.specs.Texts.{decimalOf, longDecimalOf}
 use Rattle.texts.specs.Texts.{okWord, refusedWord, badLineWords, unitWord, activeWord, passiveWord}
+use Rattle.texts.specs.Texts.{heldWord, deliveredWord, droppedWord}
 
 -- "It prints `ok`, `refused n` or, for any other line, `bad line`."
 abbrev pub refusedLine : (number : ℕ) → List ℕ
@@ -20,6 +21,20 @@ okLine = okWord ++ (newline ∷ [])
 
 abbrev pub badLine : List ℕ
 badLine = badLineWords ++ (newline ∷ [])
+
+-- What became of a frame: held at its place, delivered, dropped.
+abbrev pub heldLine : (place : ℕ) → List ℕ
+heldLine place = heldWord ++ (space ∷ decimalOf place) ++ (newline ∷ [])
+
+abbrev pub deliveredLine : List ℕ
+deliveredLine = deliveredWord ++ (newline ∷ [])
+
+abbrev pub droppedLine : List ℕ
+droppedLine = droppedWord ++ (newline ∷ [])
+
+-- A figure: its name and its value.
+abbrev pub figureLine : (name : List ℕ) (value : ℕ) → List ℕ
+figureLine name value = name ++ (space ∷ longDecimalOf value) ++ (newline ∷ [])
 
 -- "Show prints for each unit its number and state"
 abbrev pub stateText : (active : Bool) → List ℕ

@@ -8,8 +8,10 @@ use Rattle.lines.proofs.parse.Tie as tie
 
 returns : tie.Need-returns
 returns c =
-    let found = c .before .before .before in
-    chosen-lent _ _ (found .before .before .word-end .ensures .0) (found .arguments .ensures) (c .choose .ensures)
+    let other = c .before in
+    let found = other .before .before .before in
+    chosen-lent _ _ _ (found .before .before .word-end .ensures .0) (found .arguments .ensures) (other .others .ensures)
+    (c .choose .ensures)
 
 pub parse-spec : {M : Type 1} → statement M
 parse-spec =
@@ -17,5 +19,6 @@ parse-spec =
     (tie.spec
     (λ c. search needs) (λ c. search needs) (λ c. search needs) (λ c. search needs) (λ c. search needs)
     (λ c. simp length-take (omega arith)) (λ c. search needs) (λ c. search needs) (λ c. search needs)
-    (λ c. search needs) (λ c. search needs)
+    (λ c. search needs) (λ c. search needs) (λ c. search needs) (λ c. search needs) (λ c. search needs)
+    (λ c. search needs)
     returns)

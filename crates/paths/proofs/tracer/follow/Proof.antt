@@ -6,7 +6,8 @@ use lib.ListN.{length, set, length-set}
 use Rattle.ground.specs.Rows.{at}
 use Rattle.rules.specs.Tables.{unitWords, networkWords, successorsAt}
 use Rattle.paths.specs.Tracing.{Traceable}
-use Rattle.paths.proofs.Turns.{Sized, fit-sized, Underway, begins, set-inside, stored-inside, arrives, strands}
+use Rattle.fitness.proofs.SuccessorSets.{Sized, fit-sized}
+use Rattle.paths.proofs.Turns.{Underway, begins, set-inside, stored-inside, arrives, strands}
 use Rattle.paths.proofs.Turns.{units-some, circles, goes}
 use Rattle.paths.proofs.tracer.follow.Statement.{statement}
 use Rattle.paths.proofs.tracer.follow.Tie as tie

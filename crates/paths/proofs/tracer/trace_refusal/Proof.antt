@@ -7,7 +7,7 @@ use borrow.Author.Tests.{lt-ltb, le-ltb, not-true, not-false}
 use Rattle.ground.specs.Rows.{at}
 use Rattle.rules.specs.Tables.{networkFrom, fitTables}
 use Rattle.paths.proofs.TraceAnswers.{path-too-short, choices-too-short, none-applies}
-use Rattle.paths.proofs.Turns.{Sized, fit-sized}
+use Rattle.fitness.proofs.SuccessorSets.{Sized, fit-sized}
 use Rattle.paths.proofs.tracer.trace_refusal.Statement.{statement}
 use Rattle.paths.proofs.tracer.trace_refusal.Tie as tie
 

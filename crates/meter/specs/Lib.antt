@@ -1,0 +1,2 @@
+-- How the meter's code reads its table.
+pub mod Reading

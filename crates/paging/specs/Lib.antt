@@ -1,0 +1,2 @@
+-- What `page` prints.
+pub mod Page

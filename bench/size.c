@@ -1,5 +1,5 @@
 /*
- * A program that links every function of the parts that HUB, MESSAGE and NETWORK ask for, and nothing else of the archive.
+ * A program that links every function of the parts that HUB, MESSAGE, NETWORK and METER ask for, and nothing else of the archive.
  * `bench/run` looks at its size, and doesn't run it.
  */
 #include "puntclover.h"
@@ -39,6 +39,21 @@ static const volatile any_function used[] = {
     (any_function)puntclover_network_link,
     (any_function)puntclover_network_awaits,
     (any_function)puntclover_network_trace,
+#endif
+#ifdef METER
+    (any_function)puntclover_meter_fresh,
+    (any_function)puntclover_meter_enter,
+    (any_function)puntclover_meter_move,
+    (any_function)puntclover_meter_drop,
+    (any_function)puntclover_meter_entered,
+    (any_function)puntclover_meter_delivered,
+    (any_function)puntclover_meter_dropped,
+    (any_function)puntclover_meter_held,
+    (any_function)puntclover_meter_frames,
+    (any_function)puntclover_meter_frame_size,
+    (any_function)puntclover_meter_frame_unit,
+    (any_function)puntclover_meter_frame_destination,
+    (any_function)puntclover_meter_frame_hops,
 #endif
 };
 

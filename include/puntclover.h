@@ -4,6 +4,7 @@
  *   puntclover/hub.h       one hub, for firmware
  *   puntclover/message.h   a message's bytes, for radio tools
  *   puntclover/network.h   a whole network and the tracer, for planning tools and tests
+ *   puntclover/meter.h     frames on their way over a network's routes, with bytes that add up
  *   puntclover/answers.h   what every answer means, and what every call asks of its caller
  *   puntclover/version.h   the version
  *
@@ -15,6 +16,7 @@
 #include "puntclover/answers.h"
 #include "puntclover/hub.h"
 #include "puntclover/message.h"
+#include "puntclover/meter.h"
 #include "puntclover/network.h"
 #include "puntclover/version.h"
 

@@ -7,6 +7,7 @@
 use crate::site::{Site, Step};
 use networks::call::Call;
 use second::limits::ACCEPTED;
+use second::meter_table::BYTES as METER_BYTES;
 use second::network_tables::{Tables, QUEUES_BYTES, UNITS_BYTES};
 use std::hint::black_box;
 
@@ -78,9 +79,10 @@ pub fn second_delivers(deliveries: &[Recorded], tables: &mut [Tables]) {
     }
 }
 
-/// The bytes that a network takes, whatever its count.
+/// The bytes that a network takes, whatever its count, and those of a meter.
 pub fn print_bytes() {
     println!("units   {UNITS_BYTES:>6} bytes");
     println!("queues  {QUEUES_BYTES:>6} bytes");
     println!("both    {:>6} bytes", UNITS_BYTES + QUEUES_BYTES);
+    println!("meter   {METER_BYTES:>6} bytes");
 }

@@ -1,12 +1,15 @@
 //! The calls whose stack is measured: events of hubs and of networks, and all
-//! questions on the tables that they met.
+//! questions on the tables that they met; and all calls on meters.
 
 use crate::site::{Site, Step};
 use crate::stack::{self, Measured};
 use crate::{networks_measured, record};
 use hubs::call::Call as HubCall;
+use meters::call::{fields, Call as MeterCall, FIGURES};
 use networks::call::{Call as NetworkCall, Trace, PATH};
 use second::limits::FIRMWARE_ROOM;
+use second::meter::Meter;
+use second::meter_table::laid_out;
 use second::network_tables::Tables;
 use std::collections::BTreeMap;
 
@@ -24,6 +27,11 @@ pub fn of_hubs() -> BTreeMap<&'static str, usize> {
 /// The most bytes of stack of each function of a network.
 pub fn of_networks() -> BTreeMap<&'static str, usize> {
     most(network_calls)
+}
+
+/// The most bytes of stack of each function of a meter.
+pub fn of_meters() -> BTreeMap<&'static str, usize> {
+    most(meter_calls)
 }
 
 fn most(calls: impl Fn(&str, u32) -> Vec<Measured>) -> BTreeMap<&'static str, usize> {
@@ -120,6 +128,42 @@ fn network_call(before: Tables, call: NetworkCall) -> Measured {
             tables.units.copy_from_slice(&before.units);
             tables.queues.copy_from_slice(&before.queues);
             call.of_product(&mut tables, &mut path);
+        }),
+    }
+}
+
+/// All calls on a meter with one frame, over some of the tables of a network.
+fn meter_calls(shape: &str, count: u32) -> Vec<Measured> {
+    let mut site = Site::formed(shape, count);
+    let mut calls = Vec::new();
+    for number in 0..STEPS {
+        let step = site.next();
+        if number % ASKED_EVERY == 0 {
+            let mut meter = Meter::default();
+            let entered = meter.enter(&site.network, 1, 0, 1);
+            entered.expect("a legal frame");
+            let changes = [
+                MeterCall::Enter(1, 0, 1),
+                MeterCall::Move(0, 1),
+                MeterCall::Drop(0),
+            ];
+            let asked = changes.into_iter().chain(FIGURES).chain(fields(0));
+            let tables = Tables::of(&site.network);
+            calls.extend(asked.map(|call| meter_call(tables.clone(), laid_out(&meter), call)));
+        }
+        site.take(step);
+    }
+    calls
+}
+
+fn meter_call(tables: Tables, before: Vec<u8>, call: MeterCall) -> Measured {
+    let mut meter = before.clone();
+    Measured {
+        // Named without what became of a frame.
+        name: call.kind(0, false),
+        call: Box::new(move || {
+            meter.copy_from_slice(&before);
+            call.of_product(&tables, &mut meter);
         }),
     }
 }

@@ -1,5 +1,5 @@
-//! Measures the C border of one hub and deliveries in a network, and the second
-//! program beside them.
+//! Measures the C border of one hub, deliveries in a network and calls on a
+//! meter, and the second program beside them.
 //!
 //! Both sides are given the same calls, recorded once: tables and an event. Both
 //! read the tables, test that they are fit, run the event, and lay out tables
@@ -13,7 +13,10 @@
 //! * `bench deliveries SHAPE COUNT`: each side once over recorded deliveries of a
 //!   network, for the functions `network_delivers` and `second_delivers`; prints
 //!   the number of deliveries.
-//! * `bench bytes`: the bytes of a network's tables and queues.
+//! * `bench metered COUNT`: each side once over recorded calls on a meter over a
+//!   mesh, for the functions `meter_KIND` and `second_meter_KIND`; prints each
+//!   kind of call with the number of calls.
+//! * `bench bytes`: the bytes of a network's tables and queues, and of a meter.
 //! * `bench stack`: the bytes of stack that a call uses, the most over all
 //!   events and questions of all networks.
 //! * `bench flips`: of the bits of a hub's table, those that pass the test of the
@@ -22,6 +25,7 @@
 mod deliveries;
 mod depths;
 mod flips;
+mod metered;
 mod record;
 mod site;
 mod stack;
@@ -53,6 +57,12 @@ fn main() -> ExitCode {
         ["stack"] => stack(),
         ["bytes"] => deliveries::print_bytes(),
         ["flips"] => flips::print(),
+        ["metered", count] => {
+            let Ok(count) = count.parse() else {
+                return ExitCode::from(2);
+            };
+            metered::once(count);
+        }
         [what @ ("once" | "deliveries"), shape, count] => {
             let Ok(count) = count.parse() else {
                 return ExitCode::from(2);
@@ -64,7 +74,8 @@ fn main() -> ExitCode {
         }
         _ => {
             eprintln!(
-                "usage: bench networks | time | stack | bytes | flips | once SHAPE COUNT | deliveries SHAPE COUNT"
+                "usage: bench networks | time | stack | bytes | flips | once SHAPE COUNT | \
+                 deliveries SHAPE COUNT | metered COUNT"
             );
             return ExitCode::from(2);
         }
@@ -143,13 +154,14 @@ fn once(shape: &str, count: u32) {
 fn stack() {
     print_stack("hub", &depths::of_hubs());
     print_stack("network", &depths::of_networks());
+    print_stack("meter", &depths::of_meters());
 }
 
 fn print_stack(what: &str, used: &BTreeMap<&str, usize>) {
     for (name, used) in used {
         let name = format!("{what}_{name}");
-        println!("{name:18} {used:>6} bytes");
+        println!("{name:23} {used:>6} bytes");
     }
     let most = used.values().max().copied().unwrap_or(0);
-    println!("{what:10} at most {most:>6} bytes");
+    println!("{what:15} at most {most:>6} bytes");
 }

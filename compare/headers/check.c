@@ -1,6 +1,7 @@
 /*
  * Checks what stands in the headers themselves, as C and as C++: the tests of answers, the walk over outgoing messages, the
- * numbers in fields; and calls every function that they declare, on the life of two hubs that docs/FIRMWARE.md tells.
+ * numbers in fields, what became of a frame; and calls every function that they declare, on the life of two hubs that
+ * docs/FIRMWARE.md tells.
  *
  * Build: gcc -std=c99 -Iinclude compare/headers/check.c target/libpuntclover.a; with g++, -std=c++11 -x c++ before the source
  * and -x none after it. Ends with status 1 and the line of each check that fails.
@@ -16,6 +17,7 @@
 #define TABLE table, sizeof table
 #define OUT out, sizeof out
 #define TABLES units, sizeof units, queues, sizeof queues
+#define METERED TABLES, meter, sizeof meter
 
 static int failed;
 
@@ -40,7 +42,8 @@ static void answers(void)
     CHECK(strcmp(puntclover_refusal_words(PUNTCLOVER_REFUSED_COUNT), "unit count not 2 to 16") == 0);
     CHECK(strcmp(puntclover_refusal_words(PUNTCLOVER_REFUSED_QUEUE_FULL), "some queue would pass 4 messages") == 0);
     CHECK(strcmp(puntclover_refusal_words(0), "no such refusal") == 0);
-    CHECK(strcmp(puntclover_refusal_words(14), "no such refusal") == 0);
+    CHECK(strcmp(puntclover_refusal_words(PUNTCLOVER_REFUSED_ENTERED), "entered bytes would pass 10^15") == 0);
+    CHECK(strcmp(puntclover_refusal_words(17), "no such refusal") == 0);
     CHECK(strcmp(puntclover_refusal_words(99), "no such refusal") == 0);
     CHECK(strcmp(puntclover_refusal_words(100), "not refused") == 0);
     CHECK(strcmp(puntclover_refusal_words(PUNTCLOVER_UNREACHABLE), "not refused") == 0);
@@ -145,6 +148,56 @@ static void network(void)
     CHECK(puntclover_network_trace(TABLES, 0, 1, choices, 1, path, 2) == PUNTCLOVER_STRANDED);
 }
 
+static void fates(void)
+{
+    CHECK(puntclover_meter_fate(100) == PUNTCLOVER_METER_HELD && puntclover_meter_place(100) == 0);
+    CHECK(puntclover_meter_fate(163) == PUNTCLOVER_METER_HELD && puntclover_meter_place(163) == 63);
+    CHECK(puntclover_meter_fate(200) == PUNTCLOVER_METER_DELIVERED);
+    CHECK(puntclover_meter_place(200) == PUNTCLOVER_METER_FRAMES);
+    CHECK(puntclover_meter_fate(300) == PUNTCLOVER_METER_DROPPED);
+    CHECK(puntclover_meter_fate(16) == 0 && puntclover_meter_place(16) == PUNTCLOVER_METER_FRAMES);
+    CHECK(puntclover_figure_refused(99) && puntclover_figure(99) == 0);
+    /* A figure whose low 32 bits look like a refusal. */
+    CHECK(!puntclover_figure_refused(UINT64_C(0x100000002)) && puntclover_figure(UINT64_C(0x100000002)) == 0xffffff9e);
+    CHECK(puntclover_figure(100 + PUNTCLOVER_METER_MOST) == PUNTCLOVER_METER_MOST);
+}
+
+/* Two units: one frame is delivered at once, one is delivered, one is dropped, one stays. */
+static void metered(void)
+{
+    static uint8_t units[PUNTCLOVER_NETWORK_UNITS_BYTES], queues[PUNTCLOVER_NETWORK_QUEUES_BYTES];
+    uint8_t meter[PUNTCLOVER_METER_BYTES], full[PUNTCLOVER_METER_BYTES];
+    uint32_t place;
+
+    CHECK(puntclover_network_fresh(2, TABLES) == 100);
+    CHECK(puntclover_network_up(TABLES, 0, 1, 5, 7) == 100);
+    CHECK(puntclover_meter_fresh(meter, sizeof meter - 1) == PUNTCLOVER_REFUSED_TABLES);
+    CHECK(puntclover_meter_fresh(meter, sizeof meter) == 100);
+    CHECK(puntclover_meter_enter(METERED, 7, 1, 1) == PUNTCLOVER_METER_DELIVERED);
+    CHECK(puntclover_meter_enter(METERED, PUNTCLOVER_METER_LARGEST, 0, 1) == PUNTCLOVER_METER_HELD);
+    CHECK(puntclover_meter_enter(METERED, 20, 1, 0) == 101 && puntclover_meter_enter(METERED, 3, 1, 0) == 102);
+    CHECK(puntclover_meter_frame_size(METERED, 0) == 65635 && puntclover_meter_frame_unit(METERED, 0) == 100);
+    CHECK(puntclover_meter_frame_destination(METERED, 0) == 101 && puntclover_meter_frame_hops(METERED, 0) == 100);
+    CHECK(puntclover_meter_frames(METERED) == 103);
+    CHECK(puntclover_meter_move(METERED, 0, 0) == PUNTCLOVER_REFUSED_FRAME);
+    CHECK(puntclover_meter_move(METERED, 0, 2) == PUNTCLOVER_REFUSED_UNIT);
+    CHECK(puntclover_meter_move(METERED, 0, 1) == PUNTCLOVER_METER_DELIVERED);
+    CHECK(puntclover_meter_drop(METERED, 1) == PUNTCLOVER_METER_DROPPED);
+    CHECK(puntclover_meter_drop(METERED, 1) == PUNTCLOVER_REFUSED_FRAME);
+    CHECK(puntclover_meter_frame_hops(METERED, PUNTCLOVER_METER_FRAMES) == PUNTCLOVER_REFUSED_FRAME);
+    CHECK(puntclover_figure(puntclover_meter_entered(METERED)) == 65565);
+    CHECK(puntclover_figure(puntclover_meter_delivered(METERED)) == 65542);
+    CHECK(puntclover_figure(puntclover_meter_dropped(METERED)) == 20);
+    CHECK(puntclover_figure(puntclover_meter_held(METERED)) == 3 && puntclover_meter_frames(METERED) == 101);
+    for (place = 0; place < PUNTCLOVER_METER_FRAMES; place++)
+        if (place != 2)
+            CHECK(puntclover_meter_place(puntclover_meter_enter(METERED, 1, 0, 1)) == place);
+    memcpy(full, meter, sizeof meter);
+    CHECK(puntclover_meter_enter(METERED, 1, 1, 1) == PUNTCLOVER_REFUSED_NO_PLACE && memcmp(full, meter, sizeof meter) == 0);
+    meter[7] ^= 1;
+    CHECK(puntclover_meter_entered(METERED) == PUNTCLOVER_REFUSED_TABLES);
+}
+
 static void traces(void)
 {
     CHECK(puntclover_trace_ending(101) == PUNTCLOVER_ARRIVED && puntclover_trace_hops(101) == 1);
@@ -162,5 +215,7 @@ int main(void)
     hub();
     network();
     traces();
+    fates();
+    metered();
     return failed;
 }

@@ -13,7 +13,8 @@
  *
  * Answers. Below PUNTCLOVER_ANSWERED (100) the call is refused, with the lowest number that applies, and then nothing has
  * changed: no table, no buffer. PUNTCLOVER_UNREACHABLE says that a destination is unreachable; only questions for a distance
- * or a feasible distance answer so. Every other answer is 100 plus a value.
+ * or a feasible distance answer so. Every other answer is 100 plus a value. Figures of a meter are 64 bits wide: meter.h has the
+ * tests for them.
  */
 #ifndef PUNTCLOVER_ANSWERS_H
 #define PUNTCLOVER_ANSWERS_H
@@ -50,7 +51,10 @@ enum puntclover_refusal {
     PUNTCLOVER_REFUSED_NOT_AWAITED = 10,     /* an acknowledgment that isn't awaited */
     PUNTCLOVER_REFUSED_CHANGES_NOTHING = 11, /* an entry that changes nothing in the copy */
     PUNTCLOVER_REFUSED_NOT_A_TREE = 12,      /* the changed copy isn't a tree rooted at the sender */
-    PUNTCLOVER_REFUSED_QUEUE_FULL = 13       /* some queue would pass 4 messages */
+    PUNTCLOVER_REFUSED_QUEUE_FULL = 13,      /* some queue would pass 4 messages */
+    PUNTCLOVER_REFUSED_NO_PLACE = 14,        /* no free place: 64 frames are held */
+    PUNTCLOVER_REFUSED_ENTERED = 15,         /* entered bytes would pass 10^15 */
+    PUNTCLOVER_REFUSED_FRAME = 16            /* size not 1 to 65,535, a frame that isn't held, or no present successor */
 };
 
 /* Whether the call was refused. */
@@ -93,7 +97,10 @@ static inline const char *puntclover_refusal_words(uint32_t answer)
         "an acknowledgment that isn't awaited",
         "an entry that changes nothing in the copy",
         "the changed copy isn't a tree rooted at the sender",
-        "some queue would pass 4 messages"
+        "some queue would pass 4 messages",
+        "no free place: 64 frames are held",
+        "entered bytes would pass 10^15",
+        "size not 1 to 65,535, a frame that isn't held, or no present successor"
     };
 
     if (puntclover_accepted(answer))

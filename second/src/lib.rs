@@ -46,9 +46,12 @@
 //! * [`fit`]: whether tables obey the rules, for tables set up by hand.
 //! * [`unit_table`], [`network_tables`]: the same tables as numbers and bytes,
 //!   laid out, and read only if they are fit.
+//! * [`meter`], [`meter_table`]: frames on their way over a network's routes,
+//!   with bytes that add up; and the same as bytes.
 //! * [`table_bytes`]: the numbers of a table as bytes.
 //! * [`refusal`]: the numbers with which a request is refused.
-//! * [`script`]: the command lines and their answers, on streams.
+//! * [`script`]: the command lines and their answers, on streams, with a meter
+//!   and without.
 //!
 //! # Two habits
 //!
@@ -68,6 +71,8 @@
 pub mod fit;
 pub mod limits;
 pub mod message;
+pub mod meter;
+pub mod meter_table;
 pub mod network;
 pub mod network_tables;
 pub mod queues;

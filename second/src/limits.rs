@@ -48,6 +48,19 @@ pub const REMOVED: u32 = 255;
 /// highest cost.
 pub const ENTRY_BASE: u32 = HIGHEST_COST + 1;
 
+/// A meter "holds up to 64 frames": its places.
+pub const FRAMES: usize = 64;
+
+/// "Each with a size of 1 to 65,535 bytes": the largest.
+pub const LARGEST_FRAME: u32 = 65_535;
+
+/// "At its 64th hop it is delivered if that hop reaches the destination, else
+/// dropped": the hop after which no frame is held.
+pub const LAST_HOP: u8 = 64;
+
+/// "15 entered bytes would pass 10^15": the most that enter.
+pub const MOST_ENTERED: u64 = 10_u64.pow(15);
+
 /// "Length is exactly 4 plus 4 for each entry." However many entries are asked
 /// about, the length is at least as much as there is room for anywhere.
 pub const fn message_length(entries: usize) -> usize {
@@ -66,6 +79,8 @@ mod tests {
         assert_eq!(GREATEST_DISTANCE, 983_025);
         assert_eq!(QUEUE_ROOM, 4);
         assert_eq!(FIRMWARE_ROOM, 975);
+        assert_eq!((FRAMES, LARGEST_FRAME, LAST_HOP), (64, 65_535, 64));
+        assert_eq!(MOST_ENTERED, 1_000_000_000_000_000);
     }
 
     #[test]

@@ -3,7 +3,7 @@
 //! "The lowest number that applies is given. A refusal returns its number alone
 //! and changes nothing."
 
-use crate::limits::{FEWEST_UNITS, HIGHEST_COST, UNITS};
+use crate::limits::{FEWEST_UNITS, HIGHEST_COST, LARGEST_FRAME, UNITS};
 use crate::tree::UnitNumber;
 
 /// The number of a refusal.
@@ -36,6 +36,13 @@ pub const CHANGES_NOTHING: Refusal = 11;
 pub const NOT_A_TREE: Refusal = 12;
 /// 13: "some queue would pass 4 messages".
 pub const QUEUE_FULL: Refusal = 13;
+/// 14: "no free place, exactly when 64 are held".
+pub const NO_PLACE: Refusal = 14;
+/// 15: "entered bytes would pass 10^15".
+pub const ENTERED: Refusal = 15;
+/// 16: "a size not 1 to 65,535, a move or drop of a frame that isn't held, or a
+/// move to a unit that is no present successor".
+pub const FRAME: Refusal = 16;
 
 /// "Units: 2 to 16, numbered from 0." Any other count is refused with 1.
 pub fn legal_count(count: u32) -> Result<u8, Refusal> {
@@ -67,5 +74,13 @@ pub fn legal_cost(cost: u32) -> Result<u16, Refusal> {
     match u16::try_from(cost) {
         Ok(legal) if (1..=HIGHEST_COST).contains(&cost) => Ok(legal),
         _ => Err(COST),
+    }
+}
+
+/// "A size of 1 to 65,535 bytes." Any other size is refused with 16.
+pub fn legal_size(size: u32) -> Result<u16, Refusal> {
+    match u16::try_from(size) {
+        Ok(legal) if (1..=LARGEST_FRAME).contains(&size) => Ok(legal),
+        _ => Err(FRAME),
     }
 }

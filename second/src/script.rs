@@ -1,8 +1,12 @@
 //! Scripts: a command on each line, an answer to each command.
 //!
+//! There are two programs. One knows a network alone; the other has a meter over
+//! it as well, and knows the meter's commands besides.
+//!
 //! A line ends at byte 10. A last line without it counts if it has at least one
 //! byte. All other bytes, carriage return and NUL too, are bytes of the line.
 
+use crate::meter::{Fate, Meter};
 use crate::network::Network;
 use crate::refusal::{Refusal, UNFIT};
 use crate::tree::UnitNumber;
@@ -37,11 +41,27 @@ pub enum Command {
     Deliver(u32, u32),
     /// `show`: the tables.
     Show,
+    /// `enter size unit destination`: a frame enters.
+    Enter(u32, u32, u32),
+    /// `move frame unit`: a frame moves one hop.
+    Move(u32, u32),
+    /// `drop frame`: a frame is dropped.
+    Drop(u32),
+    /// `page`: the meter's figures and its frames.
+    Page,
 }
 
-/// The command on a line, if it is one: words joined by single spaces, nothing
-/// before or after. Two spaces in a row make an empty word, which is neither a
-/// command's name nor a decimal.
+impl Command {
+    /// Whether it is known only where there is a meter.
+    pub fn is_for_meter(&self) -> bool {
+        use Command::{Drop, Enter, Move, Page};
+        matches!(self, Enter(..) | Move(..) | Drop(_) | Page)
+    }
+}
+
+/// The command on a line, a meter's included, if it is one: words joined by
+/// single spaces, nothing before or after. Two spaces in a row make an empty
+/// word, which is neither a command's name nor a decimal.
 pub fn parse(line: &[u8]) -> Option<Command> {
     let words: Vec<&[u8]> = line.split(|&byte| byte == b' ').collect();
     let (name, arguments) = words.split_first()?;
@@ -53,6 +73,10 @@ pub fn parse(line: &[u8]) -> Option<Command> {
         (b"down", &[a, b]) => Some(Command::Down(a, b)),
         (b"deliver", &[a, b]) => Some(Command::Deliver(a, b)),
         (b"show", &[]) => Some(Command::Show),
+        (b"enter", &[size, unit, destination]) => Some(Command::Enter(size, unit, destination)),
+        (b"move", &[frame, unit]) => Some(Command::Move(frame, unit)),
+        (b"drop", &[frame]) => Some(Command::Drop(frame)),
+        (b"page", &[]) => Some(Command::Page),
         _ => None,
     }
 }
@@ -73,45 +97,88 @@ fn decimal(word: &[u8]) -> Option<u32> {
 #[derive(Clone, Debug, Default)]
 pub struct Runner {
     network: Option<Network>,
+    has_meter: bool,
+    meter: Meter,
 }
 
 impl Runner {
+    /// One that keeps a meter over the network too.
+    pub fn with_meter() -> Runner {
+        Runner {
+            has_meter: true,
+            ..Runner::default()
+        }
+    }
+
     /// The present network, if there was a good `units`.
     pub fn network(&self) -> Option<&Network> {
         self.network.as_ref()
     }
 
-    /// Answers a line: "`ok`, `refused n` or, for any other line, `bad line`".
-    /// An accepted `show` prints its table alone.
+    /// The present meter, which stays fresh where its commands are unknown.
+    pub fn meter(&self) -> &Meter {
+        &self.meter
+    }
+
+    /// Answers a line: "`ok`, `refused n` or, for any other line, `bad line`";
+    /// to an accepted command about a frame, what became of the frame. An
+    /// accepted `show` prints its table alone, an accepted `page` its page.
     pub fn answer(&mut self, line: &[u8], output: &mut impl Write) -> io::Result<()> {
-        let Some(command) = parse(line) else {
+        let known = |it: &Command| self.has_meter || !it.is_for_meter();
+        let Some(command) = parse(line).filter(known) else {
             return writeln!(output, "bad line");
         };
-        if let (Command::Show, Some(network)) = (command, &self.network) {
-            return show(network, output);
+        match (command, &self.network) {
+            (Command::Show, Some(network)) => return show(network, output),
+            (Command::Page, Some(_)) => return page(&self.meter, output),
+            _ => {}
         }
         match self.execute(command) {
-            Ok(()) => writeln!(output, "ok"),
+            Ok(None) => writeln!(output, "ok"),
+            Ok(Some(Fate::Held(place))) => writeln!(output, "held {place}"),
+            Ok(Some(Fate::Delivered)) => writeln!(output, "delivered"),
+            Ok(Some(Fate::Dropped)) => writeln!(output, "dropped"),
             Err(number) => writeln!(output, "refused {number}"),
         }
     }
 
-    /// Runs a command. "Before a good `units`, which starts afresh each time,
-    /// other commands answer `refused 2`." A refused `units` leaves the network
-    /// as it is.
-    fn execute(&mut self, command: Command) -> Result<(), Refusal> {
+    /// Runs a command, and gives what became of the frame that it is about.
+    /// "Before a good `units`, which starts afresh each time, other commands
+    /// answer `refused 2`." It starts the meter afresh too. A refused `units`
+    /// leaves both as they are.
+    fn execute(&mut self, command: Command) -> Result<Option<Fate>, Refusal> {
         if let Command::Units(count) = command {
             self.network = Some(Network::fresh(count)?);
-            return Ok(());
+            self.meter = Meter::default();
+            return Ok(None);
         }
         let network = self.network.as_mut().ok_or(UNFIT)?;
         match command {
-            Command::Up(a, b, ca, cb) => network.up(a, b, ca, cb),
-            Command::Cost(a, b, c) => network.cost(a, b, c),
-            Command::Down(a, b) => network.down(a, b),
-            Command::Deliver(a, b) => network.deliver(a, b),
-            Command::Units(_) | Command::Show => Ok(()),
+            Command::Up(a, b, ca, cb) => network.up(a, b, ca, cb)?,
+            Command::Cost(a, b, c) => network.cost(a, b, c)?,
+            Command::Down(a, b) => network.down(a, b)?,
+            Command::Deliver(a, b) => network.deliver(a, b)?,
+            Command::Enter(size, unit, destination) => {
+                let fate = self.meter.enter(network, size, unit, destination)?;
+                return Ok(Some(fate));
+            }
+            Command::Move(frame, unit) => {
+                return self.meter.move_on(network, frame, unit).map(Some)
+            }
+            Command::Drop(frame) => return self.meter.drop_frame(frame).map(Some),
+            Command::Units(_) | Command::Show | Command::Page => {}
         }
+        Ok(None)
+    }
+
+    /// Answers a whole script from one stream onto another. Of a line no more
+    /// than [`LINE_ROOM`] bytes are held, however long it is.
+    pub fn run(mut self, input: &mut impl BufRead, output: &mut impl Write) -> io::Result<()> {
+        let mut line = Vec::with_capacity(LINE_ROOM);
+        while next_line(input, &mut line)? {
+            self.answer(&line, output)?;
+        }
+        output.flush()
     }
 }
 
@@ -148,15 +215,26 @@ fn show_destination(unit: &Unit, j: UnitNumber, output: &mut impl Write) -> io::
     )
 }
 
-/// Answers a whole script from one stream onto another. Of a line no more than
-/// [`LINE_ROOM`] bytes are held, however long it is.
-pub fn run(input: &mut impl BufRead, output: &mut impl Write) -> io::Result<()> {
-    let mut runner = Runner::default();
-    let mut line = Vec::with_capacity(LINE_ROOM);
-    while next_line(input, &mut line)? {
-        runner.answer(&line, output)?;
+/// The meter's figures, then a line for each held frame, by rising place.
+pub fn page(meter: &Meter, output: &mut impl Write) -> io::Result<()> {
+    writeln!(output, "entered {}", meter.entered)?;
+    writeln!(output, "delivered {}", meter.delivered)?;
+    writeln!(output, "dropped {}", meter.dropped)?;
+    writeln!(output, "held {}", meter.bytes_held())?;
+    writeln!(output, "frames {}", meter.frames.len())?;
+    for (place, frame) in &meter.frames {
+        writeln!(
+            output,
+            "frame {place} size {} at {} to {} hops {}",
+            frame.size, frame.unit, frame.destination, frame.hops
+        )?;
     }
-    output.flush()
+    Ok(())
+}
+
+/// Answers a whole script, where there is no meter.
+pub fn run(input: &mut impl BufRead, output: &mut impl Write) -> io::Result<()> {
+    Runner::default().run(input, output)
 }
 
 /// Reads the next line, without its byte 10 and cut to the room. Answers
@@ -188,6 +266,7 @@ fn next_line(input: &mut impl BufRead, line: &mut Vec<u8>) -> io::Result<bool> {
 #[cfg(test)]
 mod tests {
     use super::*;
+    use crate::limits::FRAMES;
     use std::io::BufReader;
 
     fn answers(script: &[u8], buffer: usize) -> String {
@@ -208,11 +287,15 @@ mod tests {
         assert_eq!(parse(b"down 10 0"), Some(Command::Down(10, 0)));
         assert_eq!(parse(b"deliver 0 1"), Some(Command::Deliver(0, 1)));
         assert_eq!(parse(b"show"), Some(Command::Show));
+        assert_eq!(parse(b"enter 700 0 2"), Some(Command::Enter(700, 0, 2)));
+        assert_eq!(parse(b"move 63 15"), Some(Command::Move(63, 15)));
+        assert_eq!(parse(b"drop 0"), Some(Command::Drop(0)));
+        assert_eq!(parse(b"page"), Some(Command::Page));
     }
 
     #[test]
     fn other_lines_do_not() {
-        let bad: [&[u8]; 26] = [
+        let bad: [&[u8]; 36] = [
             b"",
             b" ",
             b" show",
@@ -239,6 +322,16 @@ mod tests {
             b"up 0 1 5",
             b"up 0 1 5 7 9",
             b"deliver 0",
+            b"enter 1 2",
+            b"enter 1 2 3 4",
+            b"enter 01 2 3",
+            b"move 1",
+            b"move 1  2",
+            b"drop",
+            b"drop 1 2",
+            b"drop 1234567890",
+            b"page 1",
+            b"pages",
         ];
         for line in bad {
             assert_eq!(parse(line), None, "{line:?}");
@@ -293,6 +386,73 @@ mod tests {
              refused 5\nrefused 3\nrefused 4\nrefused 6\nrefused 3\nrefused 3\n\
              refused 6\nrefused 3\nrefused 3\nrefused 3\nrefused 6\n\
              ok\nrefused 8\n"
+        );
+    }
+    fn answers_with_meter(script: &[u8]) -> String {
+        let mut output = Vec::new();
+        Runner::with_meter()
+            .run(&mut &*script, &mut output)
+            .unwrap();
+        String::from_utf8(output).unwrap()
+    }
+
+    /// A frame to its destination, one on its way, one dropped; then the page.
+    #[test]
+    fn frames_with_a_meter() {
+        let script = b"units 3\nup 0 1 1 1\nenter 700 0 1\nenter 65535 1 1\nenter 1 2 0\n\
+                       enter 9 0 1\nmove 0 1\ndrop 1\nenter 8 1 2\npage\nshow 1\npage";
+        let page = "entered 66253\ndelivered 66235\ndropped 1\nheld 17\nframes 2\n\
+                    frame 0 size 8 at 1 to 2 hops 0\nframe 2 size 9 at 0 to 1 hops 0\n";
+        let before = "ok\nok\nheld 0\ndelivered\nheld 1\nheld 2\ndelivered\ndropped\nheld 0\n";
+        assert_eq!(
+            answers_with_meter(script),
+            format!("{before}{page}bad line\n{page}")
+        );
+    }
+
+    /// The meter's own refusals, the lowest where several apply: 3 before 14
+    /// before 16.
+    #[test]
+    fn refusals_with_a_meter() {
+        let mut script = b"units 2\nenter 0 2 0\nenter 0 0 2\nenter 65536 0 1\nenter 0 0 0\n\
+                           move 0 2\nmove 0 1\ndrop 0\ndrop 64\ndrop 256\n"
+            .to_vec();
+        let mut expected = "ok\nrefused 3\nrefused 3\nrefused 16\nrefused 16\n\
+                            refused 3\nrefused 16\nrefused 16\nrefused 16\nrefused 16\n"
+            .to_string();
+        for place in 0..FRAMES {
+            script.extend(b"enter 1 0 1\n");
+            expected.push_str(&format!("held {place}\n"));
+        }
+        script.extend(b"enter 0 2 0\nenter 0 0 0\nmove 63 1\ndrop 63\nenter 0 0 0\n");
+        expected.push_str("refused 3\nrefused 14\nrefused 16\ndropped\nrefused 16\n");
+        assert_eq!(answers_with_meter(&script), expected);
+    }
+
+    /// Before a good `units` each of its commands is refused with 2; each good
+    /// `units` makes the meter fresh, and a refused one doesn't.
+    #[test]
+    fn a_meter_begins_with_units() {
+        let before = b"enter 1 0 0\nmove 0 0\ndrop 0\npage\nenter 1 0\nunits 1\npage\n";
+        assert_eq!(
+            answers_with_meter(before),
+            "refused 2\nrefused 2\nrefused 2\nrefused 2\nbad line\nrefused 1\nrefused 2\n"
+        );
+        let after = b"units 2\nenter 5 0 1\nunits 17\ndrop 0\nunits 2\npage\n";
+        assert_eq!(
+            answers_with_meter(after),
+            "ok\nheld 0\nrefused 1\ndropped\nok\n\
+             entered 0\ndelivered 0\ndropped 0\nheld 0\nframes 0\n"
+        );
+    }
+
+    /// Without a meter its commands are lines like any other, before `units` too.
+    #[test]
+    fn without_a_meter_its_commands_are_bad_lines() {
+        let script = b"page\nunits 2\nenter 5 0 1\nmove 0 1\ndrop 0\npage\n";
+        assert_eq!(
+            answers(script, 16),
+            "bad line\nok\nbad line\nbad line\nbad line\nbad line\n"
         );
     }
 }

@@ -143,7 +143,7 @@ impl Run {
 }
 
 /// The first few places where two sides differ.
-fn tell(text: &mut String, name: impl Fn(usize) -> String, product: &[u8], second: &[u8]) {
+pub fn tell(text: &mut String, name: impl Fn(usize) -> String, product: &[u8], second: &[u8]) {
     if product.len() != second.len() {
         let (ours, theirs) = (product.len(), second.len());
         let _ = writeln!(text, "{ours} bytes, second {theirs} bytes");
@@ -158,7 +158,7 @@ fn tell(text: &mut String, name: impl Fn(usize) -> String, product: &[u8], secon
 
 /// Tables by their numbers and bytes other than 0, in hexadecimal: of each unit
 /// the index in its own table, of the queues the index among all.
-fn show(text: &mut String, tables: &Tables) {
+pub fn show(text: &mut String, tables: &Tables) {
     let (units, queues) = (tables.units.len(), tables.queues.len());
     let _ = writeln!(text, "before, {units} bytes and {queues} bytes:");
     for (unit, table) in tables.units.chunks(UNIT_BYTES).enumerate() {
@@ -167,7 +167,8 @@ fn show(text: &mut String, tables: &Tables) {
     show_places(text, "queues", &tables.queues);
 }
 
-fn show_places<T: LowerHex + Default + PartialEq>(text: &mut String, name: &str, places: &[T]) {
+/// The numbers or bytes of one table other than 0, each after its index.
+pub fn show_places<T: LowerHex + Default + PartialEq>(text: &mut String, name: &str, places: &[T]) {
     let mut line = String::new();
     for (place, it) in places.iter().enumerate() {
         if *it != T::default() {

@@ -73,7 +73,7 @@ fn call(rng: &mut Rng, tables: &Tables) -> Call {
 /// A network with everything drawn but what ties units together: links are up
 /// at both ends. Often it has the most units, whose longest messages fill their
 /// places.
-fn made_up(rng: &mut Rng) -> Network {
+pub fn made_up(rng: &mut Rng) -> Network {
     let count = match rng.chance(20) {
         true => MOST,
         false => draw::count(rng),

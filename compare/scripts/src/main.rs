@@ -1,10 +1,13 @@
-//! Compares what the script program prints with what the second program does.
+//! Compares what the script programs print with what the second program does.
 //!
-//! `scripts PROGRAM [SEED]` runs scripts of a fixed seed, then of the given
-//! one, or of a fresh one that it prints so that a failure can be repeated.
-//! Each script is run whole through the program, so a network, a line or a
-//! buffer that is carried over wrongly from one line to the next shows. On any
-//! difference it says which seed, script and byte, and fails.
+//! `scripts PROGRAM METER_PROGRAM [SEED]` runs scripts of a fixed seed, then of
+//! the given one, or of a fresh one that it prints so that a failure can be
+//! repeated. Each script is run whole through the program, so a network, a meter,
+//! a line or a buffer that is carried over wrongly from one line to the next
+//! shows. On any difference it says which seed, script and byte, and fails; it
+//! also fails if something that it has to meet was not met.
+
+mod counts;
 
 use std::env;
 use std::io::{self, Write};
@@ -12,54 +15,96 @@ use std::process::{Child, Command, ExitCode, Stdio};
 use std::thread;
 use std::time::{SystemTime, UNIX_EPOCH};
 
-use second::script;
-use shared::generator;
+use counts::{Counts, Wanted, FATES, UNKNOWN};
+use second::script::Runner;
+use shared::generator::{self, Maker};
 use shared::rng::Rng;
 
 /// The seed that every run begins with.
 const FIXED: u64 = 1;
 
-/// Scripts of each seed: most of them short, for many beginnings, and some
-/// long, for networks that have lived.
-const SHORT: u32 = 1_500;
-const LONG: u32 = 12;
+/// Lines of a long script.
 const LONG_LINES: usize = 4_000;
 
-/// Scripts, lines and printed bytes that were compared.
-#[derive(Default)]
-struct Tally {
-    scripts: u64,
-    lines: u64,
-    bytes: u64,
+/// A program, the scripts for it and how the second program answers them.
+struct Part<'a> {
+    name: &'static str,
+    program: &'a str,
+    script: Maker,
+    runner: fn() -> Runner,
+    /// Scripts of each seed: most of them short, for many beginnings, and some
+    /// long, for networks that have lived.
+    short: u32,
+    long: u32,
+    /// What has to be met.
+    wanted: Wanted,
+}
+
+/// The script program; the one with a meter; and scripts for the latter through
+/// the former, to which a meter's commands are lines like any other.
+fn parts<'a>(program: &'a str, meter_program: &'a str) -> [Part<'a>; 3] {
+    let plain = Part {
+        name: "without a meter",
+        program,
+        script: generator::script,
+        runner: Runner::default,
+        short: 1_500,
+        long: 12,
+        wanted: Wanted::default(),
+    };
+    let metered = Part {
+        name: "with a meter",
+        program: meter_program,
+        script: generator::script_with_meter,
+        runner: Runner::with_meter,
+        short: 350,
+        long: 8,
+        wanted: FATES,
+    };
+    let unknown = Part {
+        name: "a meter's commands without one",
+        script: generator::script_with_meter,
+        short: 40,
+        long: 0,
+        wanted: UNKNOWN,
+        ..plain
+    };
+    [plain, metered, unknown]
 }
 
 fn main() -> ExitCode {
     let arguments: Vec<String> = env::args().skip(1).collect();
-    let (program, seed) = match arguments.as_slice() {
-        [program] => (program, Some(fresh_seed())),
-        [program, seed] => (program, seed.parse().ok()),
+    let (program, meter_program, seed) = match arguments.as_slice() {
+        [program, meter_program] => (program, meter_program, Some(fresh_seed())),
+        [program, meter_program, seed] => (program, meter_program, seed.parse().ok()),
         _ => return usage(),
     };
     let Some(seed) = seed else {
         return usage();
     };
-    for seed in [FIXED, seed] {
-        match compare_all(program, seed) {
-            Ok(tally) => println!(
-                "seed {seed}: {} scripts, {} lines, {} bytes printed, 0 differences",
-                tally.scripts, tally.lines, tally.bytes
-            ),
-            Err(what) => {
-                eprintln!("seed {seed}: {what}");
+    println!("seeds {FIXED} and {seed}");
+    let mut missing = Vec::new();
+    for part in parts(program, meter_program) {
+        let name = part.name;
+        let mut counts = Counts::default();
+        for seed in [FIXED, seed] {
+            if let Err(what) = compare_all(&part, seed, &mut counts) {
+                eprintln!("{name}, seed {seed}: {what}");
                 return ExitCode::FAILURE;
             }
         }
+        println!("{name}: {}, 0 differences", counts.sizes());
+        print!("{}", counts.answers(&part.wanted));
+        missing.extend(counts.not_met(&part.wanted));
     }
-    ExitCode::SUCCESS
+    for what in &missing {
+        eprintln!("not met: {what}");
+    }
+    ExitCode::from(u8::from(!missing.is_empty()))
 }
 
 fn usage() -> ExitCode {
-    eprintln!("usage: scripts PROGRAM [SEED], SEED a decimal number");
+    eprintln!("usage: scripts PROGRAM METER_PROGRAM [SEED], SEED a decimal number");
     ExitCode::from(2)
 }
 
@@ -71,31 +116,27 @@ fn fresh_seed() -> u64 {
 
 /// All scripts of a seed. Each has a seed of its own, from which the binary
 /// `script` prints it again.
-fn compare_all(program: &str, seed: u64) -> Result<Tally, String> {
+fn compare_all(part: &Part, seed: u64, counts: &mut Counts) -> Result<(), String> {
     let mut rng = Rng::new(seed);
-    let mut tally = Tally::default();
-    for number in 0..SHORT + LONG {
+    for number in 0..part.short + part.long {
         let own = rng.next_bits();
-        let lines = (number >= SHORT).then_some(LONG_LINES);
-        let mut input = generator::script(own, lines);
+        let lines = (number >= part.short).then_some(LONG_LINES);
+        let mut input = (part.script)(own, lines);
         if rng.chance(10) {
             // A last line without its newline.
             input.pop();
         }
-        compare(program, &input, &mut tally)
+        compare(part, &input, counts)
             .map_err(|what| format!("script {number}, of seed {own}: {what}"))?;
     }
-    Ok(tally)
+    Ok(())
 }
 
 /// One script through both.
-fn compare(program: &str, input: &[u8], tally: &mut Tally) -> Result<(), String> {
+fn compare(part: &Part, input: &[u8], counts: &mut Counts) -> Result<(), String> {
+    let program = part.program;
     let printed = run(program, input).map_err(|error| format!("{program}: {error}"))?;
-    let mut expected = Vec::new();
-    script::run(&mut &*input, &mut expected).map_err(|error| error.to_string())?;
-    tally.scripts += 1;
-    tally.lines += input.iter().filter(|&&byte| byte == b'\n').count() as u64;
-    tally.bytes += expected.len() as u64;
+    let expected = answers((part.runner)(), input, counts).map_err(|error| error.to_string())?;
     match difference(&printed, &expected) {
         None => Ok(()),
         Some(place) => Err(format!(
@@ -107,6 +148,19 @@ fn compare(program: &str, input: &[u8], tally: &mut Tally) -> Result<(), String>
                 .count()
         )),
     }
+}
+
+/// What the second program prints, counted.
+fn answers(mut runner: Runner, input: &[u8], counts: &mut Counts) -> io::Result<Vec<u8>> {
+    counts.count_script(input);
+    let mut output = Vec::new();
+    for line in input.split_inclusive(|&byte| byte == b'\n') {
+        let line = line.strip_suffix(b"\n").unwrap_or(line);
+        let start = output.len();
+        runner.answer(line, &mut output)?;
+        counts.count_line(line, &output[start..]);
+    }
+    Ok(output)
 }
 
 /// Where two outputs begin to differ.

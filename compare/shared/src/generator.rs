@@ -4,14 +4,17 @@
 //! itself, so it knows which links are up and which queues hold messages.
 //! Between the legal lines stand illegal and malformed ones. What the script is
 //! made of (shape and size of the network, costs, order of deliveries, what
-//! happens how often) is drawn once for each network.
+//! happens how often) is drawn once for each network. In a script for the program
+//! with a meter, lines about frames follow any of its lines.
 
+mod frames;
 mod illegal;
 mod plan;
 
 use crate::malformed;
 use crate::rng::Rng;
 use crate::shapes::Pair;
+use frames::Traffic;
 use plan::{Action, Costs, Order, Plan};
 use second::limits::HIGHEST_COST;
 use second::network::Network;
@@ -23,44 +26,71 @@ use std::io;
 struct Generator {
     rng: Rng,
     plan: Plan,
+    traffic: Option<Traffic>,
     runner: Runner,
     script: Vec<u8>,
     lines: usize,
     goal: usize,
 }
 
+/// Makes up a script from a seed, of as many lines as asked for.
+pub type Maker = fn(u64, Option<usize>) -> Vec<u8>;
+
 /// The script of a seed, of as many lines as asked for or, if none are asked
 /// for, of 20 to 600. Some scripts end without a line's end.
 pub fn script(seed: u64, lines: Option<usize>) -> Vec<u8> {
-    let mut rng = Rng::new(seed);
-    let drawn = rng.between(20, 600) as usize;
-    let plan = Plan::draw(&mut rng);
-    let mut generator = Generator {
-        rng,
-        plan,
-        runner: Runner::default(),
-        script: Vec::new(),
-        lines: 0,
-        goal: lines.unwrap_or(drawn),
-    };
-    generator.prologue();
-    generator.start_network();
-    while !generator.is_done() {
-        generator.act();
-    }
-    if generator.rng.chance(20) {
-        generator.script.pop();
-    }
-    generator.script
+    Generator::new(seed, lines).whole()
+}
+
+/// Such a script for the program with a meter.
+pub fn script_with_meter(seed: u64, lines: Option<usize>) -> Vec<u8> {
+    let mut generator = Generator::new(seed, lines);
+    generator.traffic = Some(Traffic::draw(&mut generator.rng));
+    generator.runner = Runner::with_meter();
+    generator.whole()
 }
 
 impl Generator {
+    fn new(seed: u64, lines: Option<usize>) -> Generator {
+        let mut rng = Rng::new(seed);
+        let drawn = rng.between(20, 600) as usize;
+        let plan = Plan::draw(&mut rng);
+        Generator {
+            rng,
+            plan,
+            traffic: None,
+            runner: Runner::default(),
+            script: Vec::new(),
+            lines: 0,
+            goal: lines.unwrap_or(drawn),
+        }
+    }
+
+    fn whole(mut self) -> Vec<u8> {
+        self.prologue();
+        self.perhaps_drive();
+        self.start_network();
+        while !self.is_done() {
+            self.act();
+        }
+        if self.rng.chance(20) {
+            self.script.pop();
+        }
+        self.script
+    }
+
     fn is_done(&self) -> bool {
         self.lines >= self.goal
     }
 
-    /// Adds a line, if there is room, and answers it for the own knowledge.
+    /// Adds a line and, where there is traffic, lines about frames after it.
     fn line(&mut self, line: impl AsRef<[u8]>) {
+        self.single_line(line);
+        self.perhaps_frames();
+    }
+
+    /// Adds a line, if there is room, and answers it for the own knowledge.
+    fn single_line(&mut self, line: impl AsRef<[u8]>) {
         if self.is_done() {
             return;
         }
@@ -152,6 +182,7 @@ impl Generator {
         if self.rng.chance(70) {
             self.plan = Plan::draw(&mut self.rng);
         }
+        self.perhaps_drive();
         self.start_network();
     }
 

@@ -2,7 +2,7 @@
 
 use crate::draw::{self, MOST};
 use crate::rng::Rng;
-use second::limits::HIGHEST_COST;
+use second::limits::{FRAMES, HIGHEST_COST, LARGEST_FRAME};
 use second::script::{LINE_ROOM, LONGEST_COMMAND};
 
 /// Turns a good line into a malformed one.
@@ -31,6 +31,16 @@ const SPOILS: [Spoil; 16] = [
 /// A malformed line, without a line's end.
 pub fn line(rng: &mut Rng) -> Vec<u8> {
     let good = good_line(rng);
+    spoiled(rng, good)
+}
+
+/// A malformed line that would be one of a meter's commands.
+pub fn meter_line(rng: &mut Rng) -> Vec<u8> {
+    let good = good_meter_line(rng);
+    spoiled(rng, good)
+}
+
+fn spoiled(rng: &mut Rng, good: Vec<u8>) -> Vec<u8> {
     let spoil = rng.between(0, SPOILS.len() as u32 - 1) as usize;
     SPOILS[spoil](rng, good)
 }
@@ -50,8 +60,21 @@ fn good_line(rng: &mut Rng) -> Vec<u8> {
     line.into_bytes()
 }
 
-/// The line with its last word exchanged; `show`, which has but one, gets a
-/// word more.
+/// A line that would be one of a meter's commands.
+fn good_meter_line(rng: &mut Rng) -> Vec<u8> {
+    let (a, b) = (rng.between(0, MOST - 1), rng.between(0, MOST - 1));
+    let place = rng.between(0, FRAMES as u32 - 1);
+    let line = match rng.between(0, 3) {
+        0 => format!("enter {} {a} {b}", rng.between(1, LARGEST_FRAME)),
+        1 => format!("move {place} {b}"),
+        2 => format!("drop {place}"),
+        _ => "page".to_string(),
+    };
+    line.into_bytes()
+}
+
+/// The line with its last word exchanged; one that has but one word gets a word
+/// more.
 fn with_last_word(mut line: Vec<u8>, word: &[u8]) -> Vec<u8> {
     match line.iter().rposition(|&byte| byte == b' ') {
         Some(space) => line.truncate(space + 1),
@@ -193,11 +216,12 @@ mod tests {
         let mut rng = Rng::new(3);
         for spoil in SPOILS {
             for _ in 0..300 {
-                let good = good_line(&mut rng);
-                assert!(parse(&good).is_some(), "{good:?}");
-                let spoiled = spoil(&mut rng, good.clone());
-                assert_eq!(parse(&spoiled), None, "{good:?} to {spoiled:?}");
-                assert!(!spoiled.contains(&b'\n'), "{spoiled:?}");
+                for good in [good_line(&mut rng), good_meter_line(&mut rng)] {
+                    assert!(parse(&good).is_some(), "{good:?}");
+                    let spoiled = spoil(&mut rng, good.clone());
+                    assert_eq!(parse(&spoiled), None, "{good:?} to {spoiled:?}");
+                    assert!(!spoiled.contains(&b'\n'), "{spoiled:?}");
+                }
             }
         }
     }

@@ -2,8 +2,10 @@
 //! with their words, one version, one prefix for every name.
 
 use second::limits::{
-    ACCEPTED, ENTRIES, ENTRY_BYTES, FIRMWARE_ROOM, HIGHEST_COST, MESSAGE_ROOM, REMOVED, UNITS,
+    ACCEPTED, ENTRIES, ENTRY_BYTES, FIRMWARE_ROOM, FRAMES, HIGHEST_COST, LARGEST_FRAME, LAST_HOP,
+    MESSAGE_ROOM, MOST_ENTERED, REMOVED, UNITS,
 };
+use second::meter_table;
 use second::network_tables::{QUEUES_BYTES, UNITS_BYTES, UNIT_BYTES};
 use second::refusal;
 use second::table_bytes::EACH;
@@ -11,11 +13,12 @@ use std::collections::BTreeMap;
 use std::fs;
 use std::path::Path;
 
-const HEADERS: [&str; 6] = [
+const HEADERS: [&str; 7] = [
     "puntclover.h",
     "puntclover/answers.h",
     "puntclover/hub.h",
     "puntclover/message.h",
+    "puntclover/meter.h",
     "puntclover/network.h",
     "puntclover/version.h",
 ];
@@ -88,6 +91,16 @@ fn numbers_of_the_headers() {
         ],
     );
     check(
+        "puntclover/meter.h",
+        &[
+            ("PUNTCLOVER_METER_BYTES", meter_table::BYTES),
+            ("PUNTCLOVER_METER_FRAMES", FRAMES),
+            ("PUNTCLOVER_METER_LARGEST", LARGEST_FRAME as usize),
+            ("PUNTCLOVER_METER_MOST", MOST_ENTERED as usize),
+            ("PUNTCLOVER_METER_LAST_HOP", LAST_HOP.into()),
+        ],
+    );
+    check(
         "puntclover/network.h",
         &[
             ("PUNTCLOVER_NETWORK_UNITS_BYTES", UNITS_BYTES),
@@ -114,6 +127,9 @@ fn refusals_and_their_words() {
         ("CHANGES_NOTHING", refusal::CHANGES_NOTHING),
         ("NOT_A_TREE", refusal::NOT_A_TREE),
         ("QUEUE_FULL", refusal::QUEUE_FULL),
+        ("NO_PLACE", refusal::NO_PLACE),
+        ("ENTERED", refusal::ENTERED),
+        ("FRAME", refusal::FRAME),
     ];
     let text = text_of("puntclover/answers.h");
     let words = text.lines().filter_map(|line| {
@@ -164,6 +180,12 @@ fn one_prefix() {
 
 /// Whether a line begins a function, a struct or an enum.
 fn is_declaration(line: &str) -> bool {
-    let starts = ["uint32_t ", "static inline ", "struct ", "enum "];
+    let starts = [
+        "uint32_t ",
+        "uint64_t ",
+        "static inline ",
+        "struct ",
+        "enum ",
+    ];
     starts.iter().any(|start| line.starts_with(start))
 }

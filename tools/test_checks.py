@@ -351,7 +351,7 @@ class Names(Repository):
         self.assertEqual(self.run_tool('check-docs', '--names', '-r', self.root), (0, [seen], ''))
 
     def test_commands_are_run_too(self):
-        self.put({**NAMED, 'docs/SCRIPT.md': '', 'examples/README.md': '```console\n$ echo a\nb\n```\n'})
+        self.put({**NAMED, 'docs/SCRIPT.md': '', 'docs/METER.md': '', 'examples/README.md': '```console\n$ echo a\nb\n```\n'})
         status, lines, _ = self.run_tool('check-docs', '-r', self.root)
         self.assertEqual((status, lines[-1]), (1, 'check-docs: 1 commands, 1 differ'))
 

@@ -1,4 +1,4 @@
-"""Tests of the script program and of `./puntclover`, which builds and runs it."""
+"""Tests of the script program and of `./puntclover`, which builds and runs it; and of the program with a meter."""
 import os
 import shutil
 import subprocess
@@ -7,6 +7,7 @@ import unittest
 
 ROOT = os.path.dirname(os.path.dirname(os.path.realpath(__file__)))
 PROGRAM = os.path.join(ROOT, 'puntclover')
+METERED = os.path.join(ROOT, 'puntclover-meter')
 SCRIPT = b'units 2\nup 0 1 5 7\ndeliver 0 1\ndeliver 0 1\nshow\n'
 ANSWERS = (b'ok\nok\nok\nrefused 8\n'
            b'unit 0 active\n0 1 5 5 1\nunit 1 active\n1 0 7 7 0\n')
@@ -124,6 +125,61 @@ class Options(unittest.TestCase):
             self.assertEqual(run('--version', program=link, cwd=folder).returncode, 0)
 
 
+class Metering(unittest.TestCase):
+    """The program with a meter: the script's commands, and those of the meter."""
+
+    LINE = b'units 3\nup 0 1 1 1\nup 1 2 1 1\n' + b'deliver 0 1\ndeliver 1 0\ndeliver 1 2\ndeliver 2 1\n' * 4
+
+    def answers(self, script, program=METERED):
+        """What a script prints; nothing goes wrong."""
+        done = run(script=script, program=program)
+        self.assertEqual((done.returncode, done.stderr), (0, b''))
+        return done.stdout
+
+    def after_line(self, script):
+        """What a script prints once three units stand in a line."""
+        return self.answers(self.LINE + script)[len(self.answers(self.LINE)):]
+
+    def test_script(self):
+        self.assertEqual(self.answers(SCRIPT), ANSWERS)
+
+    def test_name(self):
+        self.assertRegex(run('--version', program=METERED).stdout, rb'^puntclover-meter \d+\.\d+\.\d+\n$')
+        self.assertTrue(run(ROOT, program=METERED).stderr.startswith(b'puntclover-meter: '))
+
+    def test_only_with_a_meter(self):
+        script = b'units 2\nenter 1 0 1\nmove 0 1\ndrop 0\npage\n'
+        self.assertEqual(self.answers(script, program=PROGRAM), b'ok\n' + b'bad line\n' * 4)
+
+    def test_before_a_good_units(self):
+        self.assertEqual(self.answers(b'enter 1 0 1\nmove 0 1\ndrop 0\npage\n'), b'refused 2\n' * 4)
+
+    def test_delivered(self):
+        self.assertEqual(self.after_line(b'enter 1500 0 2\nmove 0 1\npage\nmove 0 2\npage\n'),
+                         b'held 0\nheld 0\nentered 1500\ndelivered 0\ndropped 0\nheld 1500\nframes 1\n'
+                         b'frame 0 size 1500 at 1 to 2 hops 1\n'
+                         b'delivered\nentered 1500\ndelivered 1500\ndropped 0\nheld 0\nframes 0\n')
+
+    def test_dropped(self):
+        self.assertEqual(self.after_line(b'enter 7 0 2\nenter 8 2 0\ndrop 0\ndrop 0\nenter 9 1 1\npage\n'),
+                         b'held 0\nheld 1\ndropped\nrefused 16\ndelivered\n'
+                         b'entered 24\ndelivered 9\ndropped 7\nheld 8\nframes 1\nframe 1 size 8 at 2 to 0 hops 0\n')
+
+    def test_refused(self):
+        self.assertEqual(self.after_line(b'enter 0 0 2\nenter 65536 0 2\nenter 1 0 3\nmove 0 1\nenter 1 0 2\nmove 0 2\n'),
+                         b'refused 16\nrefused 16\nrefused 3\nrefused 16\nheld 0\nrefused 16\n')
+
+    def test_full(self):
+        held = b''.join(b'held %d\n' % place for place in range(64))
+        self.assertEqual(self.after_line(b'enter 1 0 2\n' * 65), held + b'refused 14\n')
+
+    def test_units_starts_the_meter_afresh(self):
+        self.assertEqual(self.after_line(b'enter 5 0 2\nunits 1\npage\nunits 2\npage\n'),
+                         b'held 0\nrefused 1\nentered 5\ndelivered 0\ndropped 0\nheld 5\nframes 1\n'
+                         b'frame 0 size 5 at 0 to 2 hops 0\n'
+                         b'ok\nentered 0\ndelivered 0\ndropped 0\nheld 0\nframes 0\n')
+
+
 class Failing(unittest.TestCase):
     """What can't be read or written is told, with a status that isn't 0."""
 
@@ -183,6 +239,8 @@ class Building(unittest.TestCase):
         self.folder = tempfile.mkdtemp()
         self.addCleanup(shutil.rmtree, self.folder)
         shutil.copy(PROGRAM, self.folder)
+        os.mkdir(os.path.join(self.folder, 'tools'))
+        shutil.copy(os.path.join(ROOT, 'tools', 'run-program'), os.path.join(self.folder, 'tools'))
         for name in ('one', 'two', 'other', 'puntclover'):
             os.makedirs(os.path.join(self.folder, 'crates', name, 'src'))
         self.write('crates.txt', '# crates\none:\nother: one\ntwo: one\npuntclover: one two io\n')

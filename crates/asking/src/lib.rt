@@ -1,5 +1,7 @@
 // Questions to a network's tables. A question changes nothing: 2 where the tables are not fit, 3 for a number that is no unit,
 // else 100 plus the value, and the largest number for unreachable.
+#![tactic(auto)]
+
 ghost use Rattle.std.specs.Prelude.{◌≡◌};
 ghost use Rattle.rules.specs.NetworkTable.{unit_refusal, pair_refusal, state_answer};
 ghost use Rattle.asking.specs.Asking.{row_at, asked_between};

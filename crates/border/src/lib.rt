@@ -7,6 +7,8 @@
 //
 // An answer below 100 is a refusal, which leaves all that was lent as it came; any other answer is 100 plus the value, or the
 // largest number for unreachable. Every exported name begins with `puntclover_`; include/puntclover/ has the headers.
+#![tactic(auto)]
+
 pub mod hub;
 pub mod messages;
 pub mod meters;

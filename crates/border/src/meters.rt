@@ -17,7 +17,7 @@ use meter::{calls, questions};
 const METER_BYTES: usize = 4 * METER_WORDS;
 
 // What happens to a frame.
-#[derive(Drop)]
+#[derive(Clone, Copy)]
 enum FrameCall {
     Enter(u32, u32, u32),
     Move(u32, u32),

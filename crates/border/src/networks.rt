@@ -16,7 +16,7 @@ use state::questions::Question;
 pub(crate) const UNITS_BYTES: usize = 4 * NETWORK_WORDS;
 
 // What happens in a network.
-#[derive(Drop)]
+#[derive(Clone, Copy)]
 enum NetworkCall {
     Up(u32, u32, u32, u32),
     Cost(u32, u32, u32),

@@ -13,7 +13,7 @@ use queues::queue;
 use unit::calls;
 use unit::calls::Call;
 
-#[derive(Drop)]
+#[derive(Clone, Copy)]
 pub struct Told {
     pub answer: u32,
     pub table: [u32; UNIT_WORDS],

@@ -2,5 +2,7 @@
 //
 // `fit` tests the whole of both. `tables` has the tables of all units: their count, a copy of one unit's table, another put
 // in its place, whether one of its links is up.
+#![tactic(auto)]
+
 pub mod fit;
 pub mod tables;

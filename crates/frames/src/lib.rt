@@ -1,1 +1,2 @@
 // Definitions and laws only: this crate has no code.
+#![tactic(auto)]

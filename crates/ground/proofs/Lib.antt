@@ -2,6 +2,7 @@
 pub mod Bits
 pub mod Cases
 pub mod Choices
+pub mod Clauses
 pub mod Each
 pub mod Filled
 pub mod Filling

@@ -1,8 +1,9 @@
 -- The contract of each public function leaves one output (`OneOutput` of specs/Unique.antt).
 use Rattle.ground.specs.Unique.{OneOutput}
+use Rattle.ground.specs.contracts as said
 use Rattle.ground.proofs.Unique.{agree}
 use Rattle.ground.proofs.is_legal_cost
 
 -- Whether a number is a link's cost.
-pub is_legal_cost_once : OneOutput is_legal_cost.ended is_legal_cost.Reads.Learnt
+pub is_legal_cost_once : OneOutput said.is_legal_cost.ended is_legal_cost.Reads.Learnt
 is_legal_cost_once _ _ _ _ p q i = (agree p q i, _)

@@ -1,5 +1,6 @@
 // The product's limits in code. specs/Limits.antt names the same numbers for the definitions; a function's proof relies on
 // both, and fails where they differ.
+#![tactic(auto)]
 
 ghost use Rattle.std.specs.Prelude.{◌≡◌};
 ghost use Rattle.ground.specs.Limits.{legal_cost};

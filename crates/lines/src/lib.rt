@@ -1,5 +1,7 @@
 // Which command a line is: a name and then decimals, each after a single space, and nothing else. A meter has commands of its
 // own, which are no commands where there is none.
+#![tactic(auto)]
+
 ghost use Rattle.std.specs.Prelude.{true, ◌≡◌, ◌≤◌, length};
 ghost use Rattle.ground.specs.Rows.{at, every};
 ghost use Rattle.lines.specs.Commands.{command_of};
@@ -16,7 +18,7 @@ const ARGUMENTS: usize = 4;
 // The count of decimals that no command has, and of what is not decimals.
 const TOO_MANY: usize = ARGUMENTS + 1;
 
-#[derive(Drop)]
+#[derive(Clone, Copy)]
 pub enum Command {
     Units(u32),
     Up(u32, u32, u32, u32),
@@ -33,7 +35,7 @@ pub enum Command {
 }
 
 // The decimals that follow a word: how many they are, or TOO_MANY, and their numbers.
-#[derive(Drop)]
+#[derive(Clone, Copy)]
 struct Found {
     count: usize,
     list: [u32; ARGUMENTS],

@@ -1,4 +1,6 @@
 // What `show` prints: for each unit of a network a line with its state, then a line for each other destination.
+#![tactic(auto)]
+
 ghost use Rattle.std.specs.Prelude.{◌≡◌, ◌≤◌, ◌<◌};
 ghost use Rattle.ground.specs.Limits.{unit_limit};
 ghost use Rattle.slices.specs.Putting.{used_after, put_after};

@@ -10,6 +10,8 @@
 // `fields` tests what both directions share, whether the fields are those of a legal message. `reader` takes bytes apart
 // and then asks `fields`; `writer` asks `fields` and then puts the bytes together. Neither keeps anything: a refusal leaves
 // the caller's frame as it came. `numbers` has the two with one number as the answer, as the C border gives it.
+#![tactic(auto)]
+
 mod fields;
 pub mod numbers;
 pub mod reader;

@@ -10,7 +10,7 @@ use crate::fields;
 use ground::{CHANGE_BASE, ENTRIES, ENTRY_BASE, UNITS};
 
 // What the reader answers: the message's kind, sender and number of entries, or the refusal's number.
-#[derive(Drop)]
+#[derive(Clone, Copy)]
 pub enum Answer {
     Message {
         kind: u32,
@@ -21,7 +21,7 @@ pub enum Answer {
 }
 
 // The answer with the message's changes beside it, as one number each; zeros after the last, and in a refusal.
-#[derive(Drop)]
+#[derive(Clone, Copy)]
 pub struct Reading {
     pub answer: Answer,
     pub changes: [u32; ENTRIES],

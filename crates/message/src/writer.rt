@@ -11,7 +11,7 @@ use crate::fields;
 use ground::{CHANGE_BASE, ENTRY_BASE, MESSAGE_ROOM, UNITS};
 
 // What the writer answers: the message's length, or the refusal's number.
-#[derive(Drop)]
+#[derive(Clone, Copy)]
 pub enum Written {
     Length(usize),
     Refused(u32),

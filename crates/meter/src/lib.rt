@@ -8,6 +8,8 @@
 //
 // The meter follows the routes and never changes them: a frame moves to a unit that is a successor now. That no frame
 // circles while the tables stay as they are is proved of the definitions (docs/PROOF.md), and costs nothing here.
+#![tactic(auto)]
+
 pub mod calls;
 pub mod fit;
 pub mod questions;

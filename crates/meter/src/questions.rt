@@ -8,7 +8,7 @@ use crate::{fit, table};
 use ground::ANSWERED;
 
 // What can be asked of one frame.
-#[derive(Drop)]
+#[derive(Clone, Copy)]
 pub enum Field {
     Size,
     Unit,

@@ -18,7 +18,7 @@ const PLACES: usize = 6;
 const WIDTH: usize = 4;
 
 // A figure that the table has.
-#[derive(Drop)]
+#[derive(Clone, Copy)]
 pub enum Sum {
     Entered,
     Delivered,
@@ -26,7 +26,7 @@ pub enum Sum {
 }
 
 // What can be asked of a whole meter: the bytes of those three, the bytes held, and the number of frames held.
-#[derive(Drop)]
+#[derive(Clone, Copy)]
 pub enum Figure {
     Entered,
     Delivered,
@@ -36,7 +36,7 @@ pub enum Figure {
 }
 
 // What stands at a place.
-#[derive(Drop)]
+#[derive(Clone, Copy)]
 pub struct Frame {
     pub size: u32,
     pub unit: u32,

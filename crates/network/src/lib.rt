@@ -5,5 +5,7 @@
 // event happens on a copy of its table; only when every message finds room in its queue are the copies and the messages put
 // where they belong (`events`), so a refusal leaves both tables as they came. `calls` has link up, cost, link down and
 // delivery, `fresh` the fresh network; what can be asked is in `asking`.
+#![tactic(auto)]
+
 pub mod calls;
 pub mod fresh;

@@ -1,4 +1,6 @@
 // What `page` prints: a meter's figures, one a line, then each frame that is held.
+#![tactic(auto)]
+
 ghost use Rattle.std.specs.Prelude.{◌≡◌, length};
 ghost use Rattle.ground.specs.Limits.{frame_limit};
 ghost use Rattle.slices.specs.Putting.{used_after, put_after};

@@ -13,7 +13,7 @@ use ground::{ANSWERED, UNIT_WORDS};
 use state::held::SUCCESSORS;
 
 // How a path ended, each time with the hops; or the refusal's number.
-#[derive(Drop)]
+#[derive(Clone, Copy)]
 pub enum Traced {
     // At the destination.
     Arrived(usize),

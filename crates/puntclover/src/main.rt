@@ -1,4 +1,6 @@
 // The script program. It has no meter.
+#![tactic(auto)]
+
 fn main() {
     running::run(false);
 }

@@ -8,6 +8,8 @@
 //
 // What others call takes any numbers: a count above the limit gets zeros, and a link whose cost is none that a link has is not
 // taken. For fit tables that is the recomputation of the rules (proofs/Recomputing.antt).
+#![tactic(auto)]
+
 pub mod copies;
 pub mod heads;
 mod links;

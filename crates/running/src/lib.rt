@@ -5,6 +5,8 @@
 // script is. The session is lent a meter's table, or, for the program without a meter, none of its numbers.
 //
 // A read or a write that fails is told on standard error, and ends the program: it is not taken for the end of the input.
+#![tactic(auto)]
+
 ghost use Rattle.std.specs.Prelude.{◌≤◌, ◌<◌, ◌≡◌, length};
 ghost use Rattle.frames.specs.MeterTable.{meter_words};
 
@@ -19,7 +21,7 @@ const INPUT_ROOM: usize = 65536;
 const OUT_ROOM: usize = 2 * ANSWER_ROOM;
 
 // The bytes of the chunk, the place in it that is next, the bytes held of the line so far, and whether to go on.
-#[derive(Drop)]
+#[derive(Clone, Copy)]
 struct Progress {
     filled: usize,
     place: usize,

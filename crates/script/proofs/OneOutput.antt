@@ -1,10 +1,11 @@
 -- The contract of each public function leaves one output (`OneOutput` of ground/specs/Unique.antt).
 use Rattle.ground.specs.Unique.{OneOutput}
+use Rattle.script.specs.contracts as said
 use Rattle.ground.proofs.Unique.{agree}
 use Rattle.script.proofs.answer
 
 -- The bytes used, the units' numbers, the queues' bytes, the meter's numbers and what is printed.
-pub answer_answer_once : OneOutput answer.answer.ended answer.answer.Reads.Learnt
+pub answer_answer_once : OneOutput said.answer.answer.ended answer.answer.Reads.Learnt
 answer_answer_once _ _ _ _ p q i = (
   agree p.0 q.0 i,
   (

@@ -4,4 +4,6 @@
 // `paging` what `page` prints. Here `answer` does what a line asks and puts what it prints. A program over it reads lines and
 // writes answers, and keeps nothing but the tables; tables of zeros, with which it begins, are unfit, so every command before a
 // good `units` is refused with 2. Where no meter's table is lent, a slice of no numbers, there are no commands of a meter.
+#![tactic(auto)]
+
 pub mod answer;

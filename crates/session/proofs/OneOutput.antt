@@ -1,11 +1,12 @@
 -- The contract of each public function leaves one output (`OneOutput` of ground/specs/Unique.antt).
 use Rattle.ground.specs.Unique.{OneOutput}
+use Rattle.session.specs.contracts as said
 use Rattle.ground.proofs.Unique.{agree}
 use Rattle.session.proofs.feed
 use Rattle.session.proofs.finish
 
 -- How far it came, the network's tables, the meter's, the line and the buffer.
-pub feed_once : OneOutput feed.ended feed.Reads.Learnt
+pub feed_once : OneOutput said.feed.ended feed.Reads.Learnt
 feed_once _ _ _ _ p q i = (
   agree p.0 q.0 i,
   (
@@ -23,7 +24,7 @@ feed_once _ _ _ _ p q i = (
   ),
 )
 
-pub finish_once : OneOutput finish.ended finish.Reads.Learnt
+pub finish_once : OneOutput said.finish.ended finish.Reads.Learnt
 finish_once _ _ _ _ p q i = (
   agree p.0 q.0 i,
   (

@@ -5,6 +5,8 @@
 // there are no commands of one. `feed` takes bytes of a chunk from a place on. It stops at the end of the chunk, and before that
 // only where an answer might not find room: its caller then writes the answers out, and goes on from there. `finish` answers a
 // last line without a newline. However the input is cut into chunks, the answers are those of the whole input.
+#![tactic(auto)]
+
 ghost use Rattle.std.specs.Prelude.{◌≤◌, ◌<◌, max, true, ◌≡◌, length, drop};
 ghost use Rattle.session.specs.Lending.{goes_on, feeding, finishing, reached_in};
 ghost use Rattle.session.specs.Taking.{taken};
@@ -17,7 +19,7 @@ use slices::bytes;
 pub const KEPT_ROOM: usize = 64;
 
 // The place of the chunk that is next, the bytes held of the line so far, and the bytes used of the buffer.
-#[derive(Drop)]
+#[derive(Clone, Copy)]
 pub struct Reached {
     pub place: usize,
     pub held: usize,
@@ -25,7 +27,7 @@ pub struct Reached {
 }
 
 // The place and the bytes held once bytes are taken, and whether the line is whole.
-#[derive(Drop)]
+#[derive(Clone, Copy)]
 struct Taken {
     place: usize,
     held: usize,

@@ -2,5 +2,7 @@
 //
 // Each function takes any lengths and places, and its contract says what then happens, so callers need no tests of their own.
 // The language has no generics: `bytes` and `numbers` have the same functions, proved by the same laws.
+#![tactic(auto)]
+
 pub mod bytes;
 pub mod numbers;

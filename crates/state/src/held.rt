@@ -26,7 +26,7 @@ pub const SUCCESSORS: usize = FEASIBLE + UNITS;
 const COPY: usize = SUCCESSORS + UNITS;
 
 // A unit: rows with zeros from the count on. Successor sets are left out: they follow from the rest.
-#[derive(Drop)]
+#[derive(Clone, Copy)]
 pub struct Held {
     pub count: usize,
     pub me: usize,

@@ -2,6 +2,8 @@
 // and asked (`questions`, which lays the fresh table too).
 //
 // What others call takes any numbers: a table that is none holds no unit, and is left as it came.
+#![tactic(auto)]
+
 pub mod fit;
 pub mod held;
 pub mod questions;

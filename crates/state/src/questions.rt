@@ -13,7 +13,7 @@ use ground::{ANSWERED, COPIES, FAR, UNIT_WORDS, UNITS};
 use recomputing::heads;
 
 // All that can be asked of a unit at once, for each destination; or a refusal, and zeros.
-#[derive(Drop)]
+#[derive(Clone, Copy)]
 pub struct Row {
     pub refusal: u32,
     pub count: usize,
@@ -140,7 +140,7 @@ fn listed(table: &[u32], row: usize, to: u32) -> u32
 }
 
 // What can be asked of a unit about a destination.
-#[derive(Drop)]
+#[derive(Clone, Copy)]
 pub enum Question {
     Distance,
     Feasible,

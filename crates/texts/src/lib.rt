@@ -3,6 +3,8 @@
 //
 // Each function takes the bytes used so far and answers those used then, so that texts come one behind the other. What has
 // no room in the buffer is left out: `put_byte` of `slices` alone looks whether there is room, and all others put bytes by it.
+#![tactic(auto)]
+
 pub mod row;
 pub mod text;
 

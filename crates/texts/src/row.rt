@@ -12,7 +12,7 @@ use ground::FAR;
 use slices::bytes;
 
 // The bytes used once some successors are put, and whether there are any.
-#[derive(Drop)]
+#[derive(Clone, Copy)]
 struct Listed {
     used: usize,
     some: bool,

@@ -20,7 +20,7 @@ use state::held::Held;
 
 // What can happen to a unit: the link to another unit comes up, gets another cost or goes down, or a message comes by it, whose
 // bytes stand beside the call.
-#[derive(Drop)]
+#[derive(Clone, Copy)]
 pub enum Call {
     Up { to: u32, cost: u32 },
     Cost { to: u32, cost: u32 },
@@ -30,7 +30,7 @@ pub enum Call {
 
 // What step A leaves: the unit, the neighbour whose link came up, and the one whose update is to be acknowledged, each the
 // count where there is none.
-#[derive(Drop)]
+#[derive(Clone, Copy)]
 pub struct Noted {
     pub unit: Held,
     pub new: usize,

@@ -19,7 +19,7 @@ use state::held;
 use state::held::Held;
 
 // What an event leaves: the unit, its successor sets, and the bytes used for its messages.
-#[derive(Drop)]
+#[derive(Clone, Copy)]
 pub struct Reacted {
     pub unit: Held,
     pub successors: [u32; UNITS],
@@ -71,7 +71,7 @@ fn lower(a: u32, b: u32) -> u32
 }
 
 // How feasible distances follow.
-#[derive(Drop)]
+#[derive(Clone, Copy)]
 pub enum Lowering {
     // The tree changed and there is no neighbour: the new distances.
     Alone,

@@ -13,7 +13,7 @@ use message::writer::Written;
 use state::held::Held;
 
 // Changes of a tree, one number each, and zeros after the last.
-#[derive(Drop)]
+#[derive(Clone, Copy)]
 pub struct Changes {
     pub number: usize,
     pub list: [u32; UNITS],

@@ -1,0 +1,11 @@
+-- The invariant: the places before i are alike.
+use Prim.Native.Nat.{◌-◌}
+use lib.ListN.{length}
+use Rattle.slices.proofs.Alike.{Alike}
+use Rattle.slices.proofs.bytes.is_same.Given as goal
+
+abbrev pub invariant-loop-i : goal.invariant-loop-i
+invariant-loop-i l = Alike l.a l.b l.i
+
+abbrev pub decreases-loop-i : goal.decreases-loop-i
+decreases-loop-i l = length l.a - l.i

@@ -1,0 +1,19 @@
+-- `slices::numbers::is_nothing` meets its contract. The invariant: what the greatest of the numbers below i tells of them.
+use Prim.Native.Nat.{◌-◌}
+use borrow.Author.Rules.{rules}
+use Rattle.slices.proofs.AllZero.{greatest_none, greatest_more, greatest_all}
+use Rattle.slices.proofs.numbers.is_nothing.Goals as goal
+
+pub loop-i-init : goal.loop-i-init
+loop-i-init c = (search rules, greatest_none c.args.words.now)
+
+pub loop-i-preserved : goal.loop-i-preserved
+loop-i-preserved c =
+    let here = c.loop-i in
+    let words = c.args.words.now in
+    (search rules, rw c.greater-most.ensures (greatest_more words here.i here.most here.invariant.1))
+
+pub returns : goal.returns
+returns c =
+    let here = c.loop-i in
+    greatest_all c.args.words.now here.i here.most here.invariant.1 c.loop-i-test.false

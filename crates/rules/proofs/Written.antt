@@ -135,13 +135,13 @@ written_readable n m e =
     of_readable n (written m) (record { start = refl; long = written-length m; legal = rw reads_back e })
 
 -- The bodies are bytes.
-body_bytes : (cs : List ℕ) → Under 256 (body_bytes cs)
+body-bytes : (cs : List ℕ) → Under 256 (body_bytes cs)
 unfolding body_bytes
-body_bytes [] i = omega arith
-body_bytes (c ∷ cs) zero = omega arith
-body_bytes (c ∷ cs) (suc zero) = omega arith
-body_bytes (c ∷ cs) (suc (suc zero)) = omega arith
-body_bytes (c ∷ cs) (suc (suc (suc i))) = body_bytes cs i
+body-bytes [] i = omega arith
+body-bytes (c ∷ cs) zero = omega arith
+body-bytes (c ∷ cs) (suc zero) = omega arith
+body-bytes (c ∷ cs) (suc (suc zero)) = omega arith
+body-bytes (c ∷ cs) (suc (suc (suc i))) = body-bytes cs i
 
 -- The units of a legal message are bytes.
 unit_bytes : (n : ℕ) (m : Message) → Legal n m → n ≤ unit_limit → Under 256 (map changed_unit m.changes)
@@ -159,7 +159,7 @@ written_bytes n m legal h (suc zero) = omega arith
 written_bytes n m legal h (suc (suc zero)) = omega arith
 written_bytes n m legal h (suc (suc (suc zero))) = omega arith
 written_bytes n m legal h (suc (suc (suc (suc i)))) =
-    under_append 256 (map changed_unit m.changes) (body_bytes m.changes) (unit_bytes n m legal h) (body_bytes m.changes) i
+    under_append 256 (map changed_unit m.changes) (body_bytes m.changes) (unit_bytes n m legal h) (body-bytes m.changes) i
 
 -- The three bytes of a change are those that it is made of.
 digits : (u a b c : ℕ) → a < 256 → b < 256 → c < 256 → body (change u (a * entry_base + b * 256 + c)) ≡ a ∷ b ∷ c ∷ []

@@ -16,19 +16,19 @@ use Rattle.recomputing.proofs.copies.with_copy.Tie as tie
 flat : (c : tie.Start) → length c.args.copies ≡ flat_length
 flat c = search rules
 
-wide : (c : tie.Start) → length c.args.t3 ≡ unit_limit
+wide : (c : tie.Start) → length c.args.row ≡ unit_limit
 wide c = search rules
 
-returns : tie.Need-returns
-returns c = sym (if_false _ _ _ (le-ltb _ _ c.if1.true))
+returns : tie.Need-returns-then-k-ge-UNITS
+returns c = sym (if_false _ _ _ (le-ltb _ _ c.if-k-ge-UNITS.true))
 
-returns_2 : tie.Need-returns-2
+returns_2 : tie.Need-returns
 returns_2 c =
     let laid = c.before in
     let start = laid.before.before.before.before in
-    let below : start.args.k < unit_limit = laid.before.before.before.if1.false in
-    laid.lay-over.ensures
-    ∙ replaced start.args.copies (start.args.k * unit_limit) unit_limit (omega (arith, flat start)) start.args.t3
+    let below : start.args.k < unit_limit = laid.before.before.before.if-k-ge-UNITS.false in
+    laid.lay_over.ensures
+    ∙ replaced start.args.copies (start.args.k * unit_limit) unit_limit (omega (arith, flat start)) start.args.row
     (wide start) refl
     ∙ sym (if_true _ _ _ (lt-ltb _ _ below))
 

@@ -1,0 +1,11 @@
+-- `texts::text::put_figure` meets its contract: the name, a space, the value and the line's end, one behind the other.
+use Rattle.slices.proofs.Putting.{put_then}
+use Rattle.ground.proofs.Clauses.{heard_answer_out, told_answer_out}
+use Rattle.texts.proofs.text.put_figure.Goals as goal
+
+pub returns : goal.returns
+returns c =
+    told_answer_out (put_then _ _ _ _
+    (put_then _ _ _ _ (heard_answer_out c.put_text-then.ensures)
+    (put_then _ _ _ _ (heard_answer_out c.put_byte-then.ensures) (heard_answer_out c.put_long-then.ensures)))
+    (heard_answer_out c.put_byte.ensures))

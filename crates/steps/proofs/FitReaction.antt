@@ -106,21 +106,21 @@ module _ (v : Unit) (was : Bool) where
           (λ _. smaller v.me j _ _ (own v.tree j) (own T j)))))
 
       -- A wait stays, or is 1.
-      wait_by : (k : ℕ) → k < v.count → at (new_awaited v T new) k ≡ wait_by new k
+      wait-by : (k : ℕ) → k < v.count → at (new_awaited v T new) k ≡ wait_by new k
       unfolding new_awaited
-      wait_by k l = tab_at v.count (wait_by new) k 0 l
+      wait-by k l = tab_at v.count (wait_by new) k 0 l
 
       -- It is at most 1.
       wait_low : (k : ℕ) → k < v.count → at (new_awaited v T new) k ≤ 1
       wait_low k l =
-          rw (wait_by k l)
+          rw (wait-by k l)
           (by_choice (λ (w : ℕ). w ≤ 1) (is_sent_update v T new k) 1 (at v.awaited k) (λ _. omega arith) (λ _. f.wait k l))
 
       -- It stays 0 where the link is down.
       wait_none : (k : ℕ) → k < v.count → at v.costs k ≡ 0 → at (new_awaited v T new) k ≡ 0
       unfolding is_sent_update
       wait_none k l z =
-          wait_by k l
+          wait-by k l
           ∙ if_false (is_sent_update v T new k) 1 (at v.awaited k) (rw (eq-eqb (at v.costs k) 0 z))
           ∙ f.wait_down k l z
 

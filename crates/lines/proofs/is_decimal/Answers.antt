@@ -1,9 +1,9 @@
 -- `lines::is_decimal` meets its contract: each return rewrites the definition by the tests that led there.
-use mathlib.Core.Logic.{⊎_elim}
 use borrow.Author.Tests.{eq-eqb, ne_eqb, le-leb, lt-leb}
 use Rattle.ground.proofs.Tests.{and_no}
 use Rattle.lines.specs.Words.{is_decimal}
 use Rattle.lines.proofs.is_decimal.Goals as goal
+use Rattle.lines.proofs.is_decimal.Goals.{then-word-ne1+else-word-eq48, else-word-ne1}
 
 pub returns-then-word-lt1 : goal.returns-then-word-lt1
 unfolding is_decimal
@@ -21,7 +21,8 @@ pub returns : goal.returns
 unfolding is_decimal
 returns c =
     simp (le-leb _ _ c.if-word-lt1.false, le-leb _ _ c.if-word-gt-DIGITS.false)
-    (⊎_elim
-    (λ w. simp (ne_eqb _ _ w.0.taken, ne_eqb _ _ w.2.left) c.are_digits.ensures)
-    (λ w. simp (eq-eqb _ _ w.left) c.are_digits.ensures)
-    c.if-word-ne1.branch)
+    (elim c.if-word-ne1.branch [
+      then-word-ne1+else-word-eq48 w ↦
+          simp (ne_eqb _ _ w.if-word-ne1.true, ne_eqb _ _ w.if-word-eq48.false) c.are_digits.ensures
+      | else-word-ne1 w ↦ simp (eq-eqb _ _ w.if-word-ne1.false) c.are_digits.ensures
+    ])

@@ -12,24 +12,24 @@ use Rattle.message.proofs.writer.write.Statement.{statement}
 use Rattle.message.proofs.writer.write.Tie as tie
 
 -- Once the refusal is 0, the message fits.
-free : (c : lts.Else1 (refusal-reads.Asked, refusal-reads.Learnt, lay-reads.Asked, lay-reads.Learnt) reads.Pre reads.Post)
+free : (c : lts.Else-number-ne0 (refusal-reads.Asked, refusal-reads.Learnt, lay-reads.Asked, lay-reads.Learnt) reads.Pre reads.Post)
     → Writable
-    (fields_of c.before.before.before.before.args.kind c.before.before.before.before.args.sender c.before.before.before.before.args.changes.now)
-    (length c.before.before.before.before.args.frame.now)
-    c.before.before.before.before.args.offset
+    (fields_of c.args.kind c.args.sender c.args.changes.now)
+    (length c.args.frame.now)
+    c.args.offset
 free c =
-    let args = c.before.before.before.before.args in
-    writable_by args.count _ args.frame.now args.offset c.before.refusal.ensures c.if1.false
+    let args = c.args in
+    writable_by args.count _ args.frame.now args.offset c.refusal-number.ensures c.if-number-ne0.false
 
-returns : tie.Need-returns
+returns : tie.Need-returns-then-number-ne0
 returns c =
-    let args = c.before.before.before.before.args in
-    refused_writing _ (fields_of args.kind args.sender args.changes.now) args.frame.now _ _ c.before.refusal.ensures c.if1.true
+    let args = c.args in
+    refused_writing _ (fields_of args.kind args.sender args.changes.now) args.frame.now _ _ c.refusal-number.ensures c.if-number-ne0.true
 
-sub_lay : tie.Need-overflow-sub-lay
+sub_lay : tie.Need-slice_bounds-lay-count
 sub_lay c = omega (arith, (free c).inside)
 
-part_lay_start : tie.Need-slice-bounds-lay-start
+part_lay_start : tie.Need-slice_bounds-lay-start
 part_lay_start c = omega (arith, (free c).inside)
 
 lay_requires : tie.Need-lay-requires
@@ -37,14 +37,13 @@ lay_requires c κs =
     let can = free c.before in
     (can.fitting, simp (length-take, length-drop) (omega (arith, can.inside, can.room)))
 
-returns_2 : tie.Need-returns-2
+returns_2 : tie.Need-returns
 returns_2 c =
-    let tested = c.before.before.before.before in
-    let args = tested.before.before.before.before.args in
+    let args = c.args in
     let m = fields_of args.kind args.sender args.changes.now in
     laid_writing args.count m args.frame.now args.offset
-    tested.before.refusal.ensures tested.if1.false
-    c.before.before.lay.ensures
+    c.refusal-number.ensures c.if-number-ne0.false
+    c.lay.ensures
 
 pub write_spec : {M : Type 1} → statement M
 write_spec =

@@ -11,62 +11,59 @@ use Rattle.queues.proofs.OneParcel.{parcels_more, parcel_inside, full_is}
 use Rattle.queues.proofs.parcels.has_room.Statement.{statement}
 use Rattle.queues.proofs.parcels.has_room.Tie as tie
 
-abbrev invariant_loop : tie.invariant-loop
+abbrev invariant_loop : tie.invariant-loop-k
 invariant_loop queues count i sent used place₀ k₀ place k =
     (k ≤ count) × (place ≡ parcels_to sent used k) × (has_room queues k i sent used ≡ true)
 
-abbrev decreases_loop : tie.decreases-loop
+abbrev decreases_loop : tie.decreases-loop-k
 decreases_loop queues count i sent used place₀ k₀ place k = count - k
 
-loop_holds : tie.Need-loop-init invariant_loop decreases_loop
+loop_holds : tie.Need-loop-k-init invariant_loop decreases_loop
 unfolding parcels_to has_room
 loop_holds c = search rules
 
 -- Whether the parcel of a turn finds its queue full.
-full : (c : tie.After-is-full invariant_loop decreases_loop)
-    → let args = c.before.before.before.before.before.before.args in
-    is_full args.queues.now args.i args.sent.now args.used c.before.before.before.loop.k
-    ≡ c.is-full.result
+full : (c : tie.After-is_full invariant_loop decreases_loop)
+    → let args = c.args in
+    is_full args.queues.now args.i args.sent.now args.used c.loop-k.k
+    ≡ c.is_full.result
 full c =
-    let here = c.before.before.before.loop in
-    let args = c.before.before.before.before.before.before.args in
-    full_is args.sent.now args.used here.k here.invariant.1 c.before.parcel-at.ensures args.queues.now
-    args.i c.is-full.ensures
+    let here = c.loop-k in
+    let args = c.args in
+    full_is args.sent.now args.used here.k here.invariant.1 c.parcel_at-parcel.ensures args.queues.now
+    args.i c.is_full.ensures
 
-returns : tie.Need-returns invariant_loop decreases_loop
+returns : tie.Need-returns-then-is_full invariant_loop decreases_loop
 unfolding has_room
 returns c =
-    let turn = c.before.before.before in
-    let args = turn.before.before.before.before.args in
+    let args = c.args in
     sym
     (every_not args.count (λ k. not (is_full args.queues.now args.i args.sent.now args.used k))
-    turn.before.loop.k turn.loop-test.true (ap not (full c.before ∙ c.if1.true)))
+    c.loop-k.k c.loop-k-test.true (ap not (full c.before ∙ c.if-is_full.true)))
 
-add_place : tie.Need-overflow-add-place invariant_loop decreases_loop
+add_place : tie.Need-overflow_add-place invariant_loop decreases_loop
 add_place c =
-    let sending = c.before.before in
-    let here = sending.before.before.loop in
-    let args = sending.before.before.before.before.before.args in
+    let here = c.loop-k in
+    let args = c.args in
     let inside =
-    parcel_inside args.sent.now args.used here.k here.invariant.1 sending.parcel-at.ensures in
+    parcel_inside args.sent.now args.used here.k here.invariant.1 c.parcel_at-parcel.ensures in
     search rules
 
-loop_again : tie.Need-loop-preserved invariant_loop decreases_loop
+loop_again : tie.Need-loop-k-preserved invariant_loop decreases_loop
 unfolding has_room
 loop_again c =
-    let sending = c.before.before in
-    let here = sending.before.before.loop in
-    let args = sending.before.before.before.before.before.args in (
+    let here = c.loop-k in
+    let args = c.args in (
       search rules,
-      parcels_more args.sent.now args.used here.k here.invariant.1 sending.parcel-at.ensures,
+      parcels_more args.sent.now args.used here.k here.invariant.1 c.parcel_at-parcel.ensures,
       every_more here.k (λ k. not (is_full args.queues.now args.i args.sent.now args.used k)) here.invariant.2
-          (ap not (full c.before ∙ c.if1.false)),
+          (ap not (full c.before ∙ c.if-is_full.false)),
     )
 
-returns_2 : tie.Need-returns-2 invariant_loop decreases_loop
+returns_2 : tie.Need-returns invariant_loop decreases_loop
 returns_2 c =
-    let all : c.before.loop.k ≡ c.before.before.before.before.args.count = omega arith in
-    sym (rw all at c.before.loop.invariant.2)
+    let all : c.loop-k.k ≡ c.args.count = omega arith in
+    sym (rw all at c.loop-k.invariant.2)
 
 pub has_room_spec : {M : Type 1} → statement M
 has_room_spec =

@@ -10,33 +10,33 @@ use Rattle.queues.proofs.queue.load.Statement.{statement}
 use Rattle.queues.proofs.queue.load.Tie as tie
 
 -- There is a queue where the test went on.
-there : (c : tie.Else1)
-    → let args = c.before.before.before.args in
+there : (c : tie.Else-not-has_queue)
+    → let args = c.args in
     There args.queues.now args.a args.b
 there c =
-    let args = c.before.before.before.args in
+    let args = c.args in
     there_of args.queues.now args.a args.b
-    (sym c.before.has-queue.ensures ∙ not-false _ c.if1.false)
+    (sym c.has_queue.ensures ∙ c.if-not-has_queue.false)
 
-returns : tie.Need-returns
+returns : tie.Need-returns-then-not-has_queue
 returns c =
-    let args = c.before.before.before.args in
+    let args = c.args in
     load_none args.queues.now args.a args.b
-    (sym c.before.has-queue.ensures ∙ not-true _ c.if1.true)
+    (sym c.has_queue.ensures ∙ c.if-not-has_queue.true)
 
-part_lay_over_end : tie.Need-slice-bounds-lay-over-end
+part_lay_over_end : tie.Need-slice_bounds-lay_over-end-2
 part_lay_over_end c =
     let t = there c.before.before in
     search rules
 
-returns_2 : tie.Need-returns-2
+returns_2 : tie.Need-returns
 returns_2 c =
     let begun = c.before.before.before.before in
     let t = there begun.before in
-    let args = begun.before.before.before.before.args in
-    let place : begun.begins.result ≡ queue_at args.a args.b = omega arith in
-    c.before.lay-over.ensures
-    ∙ load_there args.queues.now args.a args.b t (lent args.queues.now begun.begins.result queue_bytes place)
+    let args = begun.args in
+    let place : begun.begins-from.result ≡ queue_at args.a args.b = omega arith in
+    c.lay_over.ensures
+    ∙ load_there args.queues.now args.a args.b t (lent args.queues.now begun.begins-from.result queue_bytes place)
 
 pub load_spec : {M : Type 1} → statement M
 load_spec =

@@ -13,32 +13,32 @@ by_question : (c : tie.Start) {question : Question} → c.args.question ≡ ques
     → asked_of question c.args.table.now c.args.to ≡ asked_of c.args.question c.args.table.now c.args.to
 by_question c e = ap (λ (question : Question). asked_of question c.args.table.now c.args.to) (sym e)
 
-returns : tie.Need-returns
-returns c = c.distance.ensures ∙ by_question c.before.before.before.before c.before.enum_told.given.1
+returns : tie.Need-returns-in-Distance
+returns c = c.distance.ensures ∙ by_question c.before.before.before.before c.enum_told-1.given.1
 
-returns_2 : tie.Need-returns-2
-returns_2 c = c.feasible.ensures ∙ by_question c.before.before.before.before c.before.enum-told2.given.1
+returns_2 : tie.Need-returns-in-Feasible
+returns_2 c = c.feasible.ensures ∙ by_question c.before.before.before.before c.enum_told-in-Feasible-1.given.1
 
-returns_3 : tie.Need-returns-3
+returns_3 : tie.Need-returns-in-Successors
 returns_3 c =
     let start = c.before.before.before.before in
     c.listed.ensures
     ∙ successors_listed start.args.table.now start.args.to
-    ∙ by_question start c.before.enum-told3.given.1
+    ∙ by_question start c.enum_told-in-Successors-1.given.1
 
-returns_4 : tie.Need-returns-4
+returns_4 : tie.Need-returns-in-Link
 returns_4 c =
     let start = c.before.before.before.before in
-    c.listed2.ensures
+    c.listed-in-Link.ensures
     ∙ link_listed start.args.table.now start.args.to
-    ∙ by_question start c.before.enum-told4.given.1
+    ∙ by_question start c.enum_told-in-Link-1.given.1
 
-returns_5 : tie.Need-returns-5
+returns_5 : tie.Need-returns-in-Awaits
 returns_5 c =
     let start = c.before.before.before.before in
-    c.listed3.ensures
+    c.listed-in-Awaits.ensures
     ∙ awaits_listed start.args.table.now start.args.to
-    ∙ by_question start c.before.enum-told5.given.1
+    ∙ by_question start c.enum_told-in-Awaits-1.given.1
 
 pub ask_spec : {M : Type 1} → statement M
 ask_spec =

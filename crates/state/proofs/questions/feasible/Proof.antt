@@ -15,48 +15,47 @@ use Rattle.state.proofs.questions.feasible.Statement.{statement}
 use Rattle.state.proofs.questions.feasible.Tie as tie
 
 -- Nothing refuses the question.
-nothing_refused : (c : tie.Else1)
-    → Asked c.before.before.before.args.table.now c.before.before.before.args.to
-nothing_refused c = asked _ _ (sym c.before.question-refusal.ensures ∙ c.if1.false)
+nothing_refused : (c : tie.Else-number-ne0)
+    → Asked c.args.table.now c.args.to
+nothing_refused c = asked _ _ (sym c.question_refusal-number.ensures ∙ c.if-number-ne0.false)
 
 -- The unit in the table, and what is known of it.
-abbrev unit_in : tie.Else1 → Unit
-unit_in c = unit_from c.before.before.before.args.table.now
+abbrev unit_in : tie.Else-number-ne0 → Unit
+unit_in c = unit_from c.args.table.now
 
-known : (c : tie.Else1) → FitFacts (unit_in c)
-known c = fit_table_facts c.before.before.before.args.table.now (nothing_refused c).fit
+known : (c : tie.Else-number-ne0) → FitFacts (unit_in c)
+known c = fit_table_facts c.args.table.now (nothing_refused c).fit
 
 -- The number that is read is the unit's feasible distance.
-own : (c : tie.After-load)
-    → at c.load.result.feasible c.before.before.before.before.args.to
-    ≡ at (unit_in c.before).feasible c.before.before.before.before.args.to
+own : (c : tie.After-load-unit)
+    → at c.load-unit.result.feasible-1 c.args.to
+    ≡ at (unit_in c.before).feasible-1 c.args.to
 own c =
-    let to = c.before.before.before.before.args.to in
-    ap (λ (h : Held). at h.feasible to) c.load.ensures ∙ at_filled unit_limit (unit_in c.before).feasible to
+    let to = c.args.to in
+    ap (λ (h : Held). at h.feasible-1 to) c.load-unit.ensures ∙ at_filled unit_limit (unit_in c.before).feasible-1 to
 
-returns : tie.Need-returns
+returns : tie.Need-returns-then-number-ne0
 unfolding feasible_answer
-returns c = refused _ c.before.question-refusal.ensures c.if1.true
+returns c = refused _ c.question_refusal-number.ensures c.if-number-ne0.true
 
-load_requires : tie.Need-load-requires
-load_requires c κs = loadable c.before.before.before.args.table.now (nothing_refused c).fit
+load_requires : tie.Need-load-unit-requires
+load_requires c κs = loadable c.args.table.now (nothing_refused c).fit
 
-array_read_reach : tie.Need-array-read-reach
+array_read_reach : tie.Need-bounds-feasible-to
 array_read_reach c = omega (arith, (nothing_refused c.before.before).below, (known c.before.before).high)
 
 reach_requires : tie.Need-reach-requires
 reach_requires c κs =
     let asking = c.before.before in
-    let to = asking.before.before.before.args.to in
+    let to = asking.args.to in
     rw (own c.before) (feasible_within (unit_in asking) (known asking) to (nothing_refused asking).below)
 
-returns_2 : tie.Need-returns-2
+returns_2 : tie.Need-returns
 unfolding feasible_answer
 returns_2 c =
-    let asking = c.before.before.before in
     c.reach.ensures
     ∙ ap reachable (own c.before.before)
-    ∙ answered _ asking.before.question-refusal.ensures asking.if1.false
+    ∙ answered _ c.question_refusal-number.ensures c.if-number-ne0.false
 
 pub feasible_spec : {M : Type 1} → statement M
 feasible_spec =

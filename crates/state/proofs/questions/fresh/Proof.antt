@@ -13,48 +13,48 @@ use Rattle.state.proofs.questions.fresh.Statement.{statement}
 use Rattle.state.proofs.questions.fresh.Tie as tie
 
 -- The count is legal where its tests went on.
-right_count : (c : tie.Else2) → legal_count c.before.before.before.args.count ≡ true
-right_count c = count_legal c.before.before.before.args.count c.before.if1.false c.if2.false
+right_count : (c : tie.Else-count) → legal_count c.args.count ≡ true
+right_count c = count_legal c.args.count c.if-count-lt2.false c.if-count.false
 
-returns : tie.Need-returns
+returns : tie.Need-returns-then-count-lt2
 unfolding fresh_table_answer fresh_table
 returns c =
-    let low = count_low c.before.before.args.count c.if1.true in
+    let low = count_low c.args.count c.if-count-lt2.true in
     (rw low, rw low)
 
-returns_2 : tie.Need-returns-2
+returns_2 : tie.Need-returns-then-count
 unfolding fresh_table_answer fresh_table
 returns_2 c =
-    let high = count_high c.before.before.before.args.count c.if2.true in
+    let high = count_high c.args.count c.if-count.true in
     (rw high, rw high)
 
-returns_3 : tie.Need-returns-3
+returns_3 : tie.Need-returns-then-table-ne-UNIT_WORDS
 unfolding fresh_table_answer fresh_table
 returns_3 c =
     let legal = right_count c.before in
-    let length = ne_eqb _ unit_words c.if3.true in
+    let length = ne_eqb _ unit_words c.if-table-ne-UNIT_WORDS.true in
     (rw (legal, length), rw (legal, length))
 
-returns_4 : tie.Need-returns-4
+returns_4 : tie.Need-returns-then-count-me
 unfolding fresh_table_answer fresh_table
 returns_4 c =
     let legal = right_count c.before.before in
-    let length = eq-eqb _ unit_words c.before.if3.false in
-    let own = le-ltb _ _ c.if4.true in
+    let length = eq-eqb _ unit_words c.if-table-ne-UNIT_WORDS.false in
+    let own = le-ltb _ _ c.if-count-me.true in
     (rw (legal, length, own), rw (legal, length, own))
 
-returns_5 : tie.Need-returns-5
+returns_5 : tie.Need-returns
 unfolding fresh_table_answer fresh_table
 returns_5 c =
     let last = c.before.before.before.before.before in
-    let args = last.before.before.before.before.before.args in
+    let args = last.args in
     let legal = right_count last.before.before in
-    let length = eq-eqb _ unit_words last.before.if3.false in
-    let own = lt-ltb _ _ last.if4.false in (
+    let length = eq-eqb _ unit_words last.if-table-ne-UNIT_WORDS.false in
+    let own = lt-ltb _ _ last.if-count-me.false in (
       rw (legal, length, own),
       rw (legal, length, own)
-          (c.before.before.lay.ensures
-          ∙ fresh_laid args.count args.me last.before.before.if2.false _ c.before.before.before.before.fresh-feasible.ensures),
+          (c.lay.ensures
+          ∙ fresh_laid args.count args.me last.if-count.false _ c.fresh_feasible.ensures),
     )
 
 pub fresh_spec : {M : Type 1} → statement M

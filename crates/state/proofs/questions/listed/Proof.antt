@@ -10,44 +10,40 @@ use Rattle.state.proofs.questions.listed.Statement.{statement}
 use Rattle.state.proofs.questions.listed.Tie as tie
 
 -- Nothing refuses the question.
-nothing_refused : (c : tie.Else1)
-    → Asked c.before.before.before.args.table.now c.before.before.before.args.to
-nothing_refused c = asked _ _ (sym c.before.question-refusal.ensures ∙ c.if1.false)
+nothing_refused : (c : tie.Else-number-ne0)
+    → Asked c.args.table.now c.args.to
+nothing_refused c = asked _ _ (sym c.question_refusal-number.ensures ∙ c.if-number-ne0.false)
 
-returns : tie.Need-returns
+returns : tie.Need-returns-then-number-ne0
 unfolding listed_answer
-returns c = refused _ c.before.question-refusal.ensures c.if1.true
+returns c = refused _ c.question_refusal-number.ensures c.if-number-ne0.true
 
-add_result : tie.Need-overflow-add-result
+add_result : tie.Need-overflow_add-result
 add_result c =
-    let start = c.before.before.before in
     let a = nothing_refused c in
-    record { fits = omega (arith, listed_within start.args.row start.requires, a.below, (fit_table_facts start.args.table.now a.fit).high) }
+    record { fits = omega (arith, listed_within c.args.row c.requires, a.below, (fit_table_facts c.args.table.now a.fit).high) }
 
-mul_result : tie.Need-overflow-mul-result
+mul_result : tie.Need-offset_bounds-table-row
 mul_result c =
-    let start = c.before.before.before in
     let a = nothing_refused c in
-    record { fits = omega (arith, listed_within start.args.row start.requires, a.below, (fit_table_facts start.args.table.now a.fit).high) }
+    record { fits = omega (arith, listed_within c.args.row c.requires, a.below, (fit_table_facts c.args.table.now a.fit).high) }
 
-shared_slice_read_result : tie.Need-shared-slice-read-result
+shared_slice_read_result : tie.Need-bounds-table-row
 shared_slice_read_result c =
-    let start = c.before.before.before.before in
-    let words = start.args.table.now in
+    let words = c.args.table.now in
     let a = nothing_refused c.before in
     omega
-    (arith, (loadable words a.fit).0, listed_within start.args.row start.requires, a.below, (fit_table_facts words a.fit).high)
+    (arith, (loadable words a.fit).0, listed_within c.args.row c.requires, a.below, (fit_table_facts words a.fit).high)
 
-add_result_2 : tie.Need-overflow-add-result-2
+add_result_2 : tie.Need-overflow_add-result-2
 add_result_2 c =
-    let start = c.before.before.before.before in
     record {
-      fits = omega (arith, listed_small start.args.table.now start.args.to (nothing_refused c.before) start.args.row start.requires);
+      fits = omega (arith, listed_small c.args.table.now c.args.to (nothing_refused c.before) c.args.row c.requires);
     }
 
-returns_2 : tie.Need-returns-2
+returns_2 : tie.Need-returns
 unfolding listed_answer
-returns_2 c = answered _ c.before.before.question-refusal.ensures c.before.if1.false
+returns_2 c = answered _ c.question_refusal-number.ensures c.if-number-ne0.false
 
 pub listed_spec : {M : Type 1} → statement M
 listed_spec =

@@ -11,29 +11,27 @@ use Rattle.state.proofs.questions.question_refusal.Statement.{statement}
 use Rattle.state.proofs.questions.question_refusal.Tie as tie
 
 -- The table is fit where the test went on.
-fits : (c : tie.Else1) → fit_unit_table c.before.before.before.args.table.now ≡ true
-fits c = sym c.before.is-fit.ensures ∙ not-false c.before.is-fit.result c.if1.false
+fits : (c : tie.Else-not-is_fit) → fit_unit_table c.args.table.now ≡ true
+fits c = sym c.is_fit.ensures ∙ c.if-not-is_fit.false
 
-returns : tie.Need-returns
+returns : tie.Need-returns-then-not-is_fit
 returns c =
-    let unfit : fit_unit_table c.before.before.before.args.table.now ≡ false =
-    sym c.before.is-fit.ensures ∙ not-true c.before.is-fit.result c.if1.true in
+    let unfit : fit_unit_table c.args.table.now ≡ false =
+    sym c.is_fit.ensures ∙ c.if-not-is_fit.true in
     rw unfit
 
-shared_slice_read_if2 : tie.Need-shared-slice-read-if2
-shared_slice_read_if2 c = omega (arith, (loadable c.before.before.before.before.args.table.now (fits c.before)).0)
+shared_slice_read_if2 : tie.Need-bounds-table-0
+shared_slice_read_if2 c = omega (arith, (loadable c.args.table.now (fits c.before)).0)
 
-returns_2 : tie.Need-returns-2
+returns_2 : tie.Need-returns-then-table-to
 unfolding unit_from
 returns_2 c =
-    let start = c.before.before.before.before.before in
-    rw (fits c.before.before, le-ltb start.args.to (at start.args.table.now 0) c.if2.true)
+    rw (fits c.before.before, le-ltb c.args.to (at c.args.table.now 0) c.if-table-to.true)
 
-returns_3 : tie.Need-returns-3
+returns_3 : tie.Need-returns
 unfolding unit_from
 returns_3 c =
-    let start = c.before.before.before.before.before in
-    rw (fits c.before.before, lt-ltb start.args.to (at start.args.table.now 0) c.if2.false)
+    rw (fits c.before.before, lt-ltb c.args.to (at c.args.table.now 0) c.if-table-to.false)
 
 pub question_refusal_spec : {M : Type 1} → statement M
 question_refusal_spec =

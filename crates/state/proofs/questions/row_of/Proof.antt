@@ -16,43 +16,43 @@ use Rattle.state.proofs.questions.row_of.Statement.{statement}
 use Rattle.state.proofs.questions.row_of.Tie as tie
 
 -- The table is fit where the test went on.
-fits : (c : tie.Else1) → fit_unit_table c.before.before.before.args.table.now ≡ true
-fits c = sym c.before.is-fit.ensures ∙ not-false c.before.is-fit.result c.if1.false
+fits : (c : tie.Else-not-is_fit) → fit_unit_table c.args.table.now ≡ true
+fits c = sym c.is_fit.ensures ∙ c.if-not-is_fit.false
 
-returns : tie.Need-returns
+returns : tie.Need-returns-then-not-is_fit
 unfolding row_answer
 returns c =
-    let fine = c.before.before.is-fit in
-    let unfit : fit_unit_table c.before.before.before.before.args.table.now ≡ false =
-    sym fine.ensures ∙ not-true fine.result c.before.if1.true in
+    let fine = c.is_fit in
+    let unfit : fit_unit_table c.args.table.now ≡ false =
+    sym fine.ensures ∙ c.if-not-is_fit.true in
     rw unfit c.refused.ensures
 
-load_requires : tie.Need-load-requires
-load_requires c κs = loadable c.before.before.before.args.table.now (fits c)
+load_requires : tie.Need-load-unit-requires
+load_requires c κs = loadable c.args.table.now (fits c)
 
 -- The count of the unit that was loaded is within the limit.
-limited : (c : tie.After-load) → c.load.result.count ≤ unit_limit
+limited : (c : tie.After-load-unit) → c.load-unit.result.count ≤ unit_limit
 unfolding unit_from
 limited c =
-    let words = c.before.before.before.before.args.table.now in
-    omega (arith, ap (λ (h : Held). h.count) c.load.ensures, (loadable words (fits c.before)).1)
+    let words = c.args.table.now in
+    omega (arith, ap (λ (h : Held). h.count) c.load-unit.ensures, (loadable words (fits c.before)).1)
 
-awaits_some_requires : tie.Need-awaits-some-requires
+awaits_some_requires : tie.Need-awaits_some-requires
 awaits_some_requires c κs = limited c.before.before
 
 row_requires : tie.Need-row-requires
 row_requires c κs =
     let loaded = c.before.before.before.before in
-    let words = loaded.before.before.before.before.args.table.now in
+    let words = loaded.args.table.now in
     (limited loaded, omega (arith, (loadable words (fits loaded.before)).0))
 
-returns_2 : tie.Need-returns-2
+returns_2 : tie.Need-returns
 unfolding row_answer
 returns_2 c =
     let loaded = c.before.before.before.before.before in
-    let words = loaded.before.before.before.before.args.table.now in
+    let words = loaded.args.table.now in
     let known : fit_unit_table words ≡ true = fits loaded.before in
-    row_held words known loaded.load.ensures c.before.before.awaits-some.ensures (c.before.distances.ensures ∙ filled_counted _ _ (limited (loaded)))
+    row_held words known loaded.load-unit.ensures c.awaits_some.ensures (c.distances.ensures ∙ filled_counted _ _ (limited (loaded)))
     c.row.ensures
     ∙ sym (if_true (fit_unit_table words) _ _ known)
 

@@ -21,9 +21,9 @@ slice_bounds-is_nothing-end c = sym (length-take-le _ _ (search rules))
 pub returns-then-costs-k-eq0 : goal.returns-then-costs-k-eq0
 returns-then-costs-k-eq0 c =
     let unit = c.args.unit in
-    let long : length unit.copies-1 ≡ flat_length = search rules in
+    let long : length unit.copies ≡ flat_length = search rules in
     c.is_nothing.ensures
-    ∙ row_lent unit.count unit.copies-1 c.args.k c.requires.1 c.requires.0 long c.copy_of-copy.ensures
+    ∙ row_lent unit.count unit.copies c.args.k c.requires.1 c.requires.0 long c.copy_of-copy.ensures
     (λ (n : ℕ) (copy : List ℕ). same copy (zeros n))
     ∙ sym (down_copy unit c.args.k c.requires.1 c.if-costs-k-eq0.true c.if-awaited-k-ne0.false)
 
@@ -47,9 +47,9 @@ slice_bounds-is_tree-end c = sym (length-take-le _ _ (search rules))
 pub returns : goal.returns
 returns c =
     let unit = c.args.unit in
-    let long : length unit.copies-1 ≡ flat_length = search rules in
+    let long : length unit.copies ≡ flat_length = search rules in
     c.is_tree.ensures
-    ∙ row_lent unit.count unit.copies-1 c.args.k c.requires.1 c.requires.0 long c.copy_of-copy.ensures
+    ∙ row_lent unit.count unit.copies c.args.k c.requires.1 c.requires.0 long c.copy_of-copy.ensures
     (λ (n : ℕ) (copy : List ℕ). is_tree n c.args.k copy)
     ∙ sym
     (up_copy unit c.args.k c.requires.1

@@ -14,10 +14,10 @@ use Rattle.state.proofs.fit.fit_unit.Statement.{statement}
 use Rattle.state.proofs.fit.fit_unit.Tie as tie
 
 -- The part of the tree that is lent has a place for each unit.
-tree_long : (c : tie.Start) → length (take c.args.unit.count c.args.unit.tree-1) ≡ c.args.unit.count
+tree_long : (c : tie.Start) → length (take c.args.unit.count c.args.unit.tree) ≡ c.args.unit.count
 tree_long c =
-    let long : length c.args.unit.tree-1 ≡ unit_limit = search rules in
-    length-take-le c.args.unit.count c.args.unit.tree-1 (omega arith)
+    let long : length c.args.unit.tree ≡ unit_limit = search rules in
+    length-take-le c.args.unit.count c.args.unit.tree (omega arith)
 
 -- The function's entry, as the place after the tree's test sees it.
 abbrev start : tie.After-is_tree → tie.Start
@@ -25,13 +25,13 @@ start c = c.before.before.before.before.before.before.before
 
 -- The tree's test is the rules'.
 tree_tested : (c : tie.After-is_tree)
-    → is_tree (start c).args.unit.count (start c).args.unit.me (unit_of (start c).args.unit).tree-1
+    → is_tree (start c).args.unit.count (start c).args.unit.me (unit_of (start c).args.unit).tree
     ≡ c.is_tree.result
 tree_tested c =
     let unit = (start c).args.unit in
     sym
     (c.is_tree.ensures
-    ∙ ap (λ (n : ℕ). is_tree n unit.me (take unit.count unit.tree-1)) (tree_long (start c)))
+    ∙ ap (λ (n : ℕ). is_tree n unit.me (take unit.count unit.tree)) (tree_long (start c)))
 
 returns : tie.Need-returns-then-count-lt2
 returns c = sym (few_units (unit_of c.args.unit) c.if-count-lt2.true)
@@ -46,7 +46,7 @@ returns_3 c =
 
 array_share_prefix_tree : tie.Need-slice_bounds-tree-end
 array_share_prefix_tree c =
-    let long : length c.args.unit.tree-1 ≡ unit_limit = search rules in
+    let long : length c.args.unit.tree ≡ unit_limit = search rules in
     omega arith
 
 slice_aggregate_is_tree : tie.Need-slice_bounds-is_tree-end

@@ -38,7 +38,7 @@ unfolding unit_from
 count_low c = omega (arith, ap (λ (h : Held). h.count) c.load-unit.ensures, c.if-table-gt-UNITS.false)
 
 -- Its copies have their fixed length.
-long : (c : tie.After-load-unit) → length c.load-unit.result.copies-1 ≡ flat_length
+long : (c : tie.After-load-unit) → length c.load-unit.result.copies ≡ flat_length
 long c = search rules
 
 -- The code's test of the unit is the rules'.
@@ -91,7 +91,7 @@ returns_4 c =
     tested.load-unit.result
     through.through_neighbours-through.result
     laid.sets_over-sets.result
-    laid.lay.new.0
+    laid.lay.new.table
     tested.load-unit.ensures
     (through.through_neighbours-through.ensures ∙ through_whole _ _ _ (count_low tested.before.before) (long tested.before.before))
     (laid.sets_over-sets.ensures ∙ filled_counted _ _ (count_low tested.before.before))

@@ -11,7 +11,7 @@ use Rattle.state.proofs.held.awaits_some.Statement.{statement}
 use Rattle.state.proofs.held.awaits_some.Tie as tie
 
 -- The waits have a place for each unit.
-long : (c : tie.Start) → length c.args.unit.awaited-1 ≡ unit_limit
+long : (c : tie.Start) → length c.args.unit.awaited ≡ unit_limit
 long c = search rules
 
 returns : tie.Need-returns
@@ -21,8 +21,8 @@ returns c =
     let unit = start.args.unit in
     ap not c.is_nothing.ensures
     ∙ sym
-    (some_number (take unit.count unit.awaited-1) unit.count
-    (omega (arith, length-take unit.count unit.awaited-1, long start)))
+    (some_number (take unit.count unit.awaited) unit.count
+    (omega (arith, length-take unit.count unit.awaited, long start)))
 
 pub awaits_some_spec : {M : Type 1} → statement M
 awaits_some_spec =

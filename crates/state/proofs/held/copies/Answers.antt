@@ -3,7 +3,6 @@ use Prim.Native.Nat.{◌/◌, ◌%◌, ℕ, ◌+◌, ◌-◌, ◌<◌}
 use native.Mathlib.Omega.{arith}
 use mathlib.Core.Bool.{Bool, false, ◌&&◌}
 use mathlib.Core.List.{List}
-use mathlib.Core.Logic.{⊎_elim}
 use mathlib.Core.Path.{◌≡◌, refl, ◌∙◌}
 use borrow.Author.Tests.{lt-ltb, le-ltb}
 use lib.Dec.{ltb}
@@ -17,6 +16,7 @@ use Rattle.ground.proofs.Tests.{if_true, if_false, both_of, and_false}
 use Rattle.recomputing.specs.Flat.{flat_length}
 use Rattle.state.specs.Holding.{copy_place}
 use Rattle.state.proofs.held.copies.Goals as goal
+use Rattle.state.proofs.held.copies.Goals.{then-i-count+then-i-count-2, then-i-count+else-i-count-2, else-i-count}
 
 -- A place of the copies that counts.
 abbrev counts : (n i : ℕ) → Bool
@@ -44,14 +44,13 @@ loop-i-preserved c =
     let store = stored args.count args.table.now here.i here.numbers (omega arith) in
     let keep = kept args.count args.table.now here.i here.numbers (omega arith) in (
       omega arith,
-      ⊎_elim
-          (λ w. w.3 ∙ store w.0.taken w.1.taken here.invariant.1)
-          (⊎_elim
-          (λ w.
-          w.2
-          ∙ keep (and_false (ltb (here.i / unit_limit) args.count) _ (le-ltb _ _ w.1.left)) here.invariant.1)
-          (λ w. w.1 ∙ keep (rw (le-ltb _ _ w.0.left)) here.invariant.1))
-          c.if-i-count.branch,
+      elim c.if-i-count.branch [
+        then-i-count+then-i-count-2 w ↦ w.numbers-is ∙ store w.if-i-count.true w.if-i-count-2.true here.invariant.1
+        | then-i-count+else-i-count-2 w ↦
+            w.numbers-is
+            ∙ keep (and_false (ltb (here.i / unit_limit) args.count) _ (le-ltb _ _ w.if-i-count-2.false)) here.invariant.1
+        | else-i-count w ↦ w.numbers-is ∙ keep (rw (le-ltb _ _ w.if-i-count.false)) here.invariant.1
+      ],
     )
 
 pub returns : goal.returns

@@ -44,10 +44,10 @@ own c =
     let u = unit_in asking in
     let to = asking.args.to in
     c.distance.ensures
-    ∙ ap (λ (h : Held). distance_within h.me (take h.count h.tree-1) (h.count - 1) to) c.load-unit.ensures
+    ∙ ap (λ (h : Held). distance_within h.me (take h.count h.tree) (h.count - 1) to) c.load-unit.ensures
     ∙ ap (λ (tree : List ℕ). distance u.count u.me tree to)
-    (take_filled unit_limit u.tree-1 u.count
-    (fit_unit_shaped asking.args.table.now (nothing_refused asking).fit).tree-1)
+    (take_filled unit_limit u.tree u.count
+    (fit_unit_shaped asking.args.table.now (nothing_refused asking).fit).tree)
 
 returns : tie.Need-returns-then-number-ne0
 unfolding distance_answer
@@ -58,15 +58,15 @@ load_requires c κs = loadable c.args.table.now (nothing_refused c).fit
 
 array_share_prefix_tree : tie.Need-slice_bounds-tree-end
 array_share_prefix_tree c =
-    let long : length c.load-unit.result.tree-1 ≡ unit_limit = search rules in
+    let long : length c.load-unit.result.tree ≡ unit_limit = search rules in
     omega (arith, counted c.before, (known c.before.before).high)
 
 slice_aggregate_distance : tie.Need-slice_bounds-distance-end
 slice_aggregate_distance c =
     let loaded = c.before.before in
-    let long : length loaded.load-unit.result.tree-1 ≡ unit_limit = search rules in
+    let long : length loaded.load-unit.result.tree ≡ unit_limit = search rules in
     sym
-    (length-take-le loaded.load-unit.result.count loaded.load-unit.result.tree-1
+    (length-take-le loaded.load-unit.result.count loaded.load-unit.result.tree
     (omega (arith, counted loaded, (known loaded.before).high)))
 
 sub_distance : tie.Need-overflow_sub-count
@@ -77,8 +77,8 @@ reach_requires c κs =
     let u = unit_in c.before.before.before.before in
     let to = c.args.to in
     rw (own c)
-    (distance-within u.count u.me u.tree-1 to (known c.before.before.before.before).high
-    (omega (arith, sym (own c), c.distance.type-inv)))
+    (distance-within u.count u.me u.tree to (known c.before.before.before.before).high
+    (omega (arith, sym (own c), c.distance.type_inv)))
 
 returns_2 : tie.Need-returns
 unfolding distance_answer

@@ -28,11 +28,11 @@ known c = fit_table_facts c.args.table.now (nothing_refused c).fit
 
 -- The number that is read is the unit's feasible distance.
 own : (c : tie.After-load-unit)
-    → at c.load-unit.result.feasible-1 c.args.to
-    ≡ at (unit_in c.before).feasible-1 c.args.to
+    → at c.load-unit.result.feasible c.args.to
+    ≡ at (unit_in c.before).feasible c.args.to
 own c =
     let to = c.args.to in
-    ap (λ (h : Held). at h.feasible-1 to) c.load-unit.ensures ∙ at_filled unit_limit (unit_in c.before).feasible-1 to
+    ap (λ (h : Held). at h.feasible to) c.load-unit.ensures ∙ at_filled unit_limit (unit_in c.before).feasible to
 
 returns : tie.Need-returns-then-number-ne0
 unfolding feasible_answer

@@ -18,54 +18,50 @@ none : (words : List ℕ) (room : ℕ) (call : HubCall) {number : ℕ} → numbe
     → number ≡ accepted → table_refusal words room call ≡ accepted
 none words room call e z = sym e ∙ z
 
--- The function's entry, as the place past the refusal sees it.
-abbrev start : tie.Else1 → tie.Start
-start c = c.before.before.before.before.before.before
-
 -- Nothing refuses the call there.
-unrefused : (c : tie.Else1)
-    → let args = (start c).args in
+unrefused : (c : tie.Else-number-ne0)
+    → let args = c.args in
     table_refusal args.table.now (length args.out.now) (call_of args.call args.bytes.now) ≡ accepted
 unrefused c =
-    let args = (start c).args in
-    none args.table.now (length args.out.now) (call_of args.call args.bytes.now) c.before.refusal.ensures
-    c.if1.false
+    let args = c.args in
+    none args.table.now (length args.out.now) (call_of args.call args.bytes.now) c.refusal-number.ensures
+    c.if-number-ne0.false
 
 -- So it is ready.
-known : (c : tie.Else1)
-    → let args = (start c).args in
+known : (c : tie.Else-number-ne0)
+    → let args = c.args in
     Ready args.table.now (length args.out.now) args.call args.bytes.now
 known c =
-    let args = (start c).args in
+    let args = c.args in
     ready_of args.table.now (length args.out.now) args.call args.bytes.now (unrefused c)
 
-returns : tie.Need-returns
+returns : tie.Need-returns-then-number-ne0
 returns c =
-    let args = c.before.before.before.before.before.before.args in
-    refused_call args.table.now args.out.now (call_of args.call args.bytes.now) _ c.before.refusal.ensures
-    c.if1.true
+    let args = c.args in
+    refused_call args.table.now args.out.now (call_of args.call args.bytes.now) _ c.refusal-number.ensures
+    c.if-number-ne0.true
 
-note_requires : tie.Need-note-requires
-note_requires c κs = notable _ _ _ _ (known c.before.before.before) c.before.unit-in.ensures
+note_requires : tie.Need-note-noted-requires
+note_requires c κs = notable _ _ _ _ (known c.before.before.before) c.unit_in-unit.ensures
 
 finish_requires : tie.Need-finish-requires
 finish_requires c κs =
     let here = known c.before.before.before.before.before.before.before in
-    let loaded = c.before.before.before.before.before.unit-in.ensures in
-    let noted = c.before.before.before.note.ensures in
+    let loaded = c.unit_in-unit.ensures in
+    let noted = c.note-noted.ensures in
     (ready _ _ _ _ here loaded noted, (loadable _ here.fit).0, owed_other _ _ _ _ here loaded noted, here.enough)
 
-returns_2 : tie.Need-returns-2
+returns_2 : tie.Need-returns
 returns_2 c =
     let finished = c.before.before.before.before in
     let noted = finished.before.before.before.before in
     let loaded = noted.before.before in
     let tested = loaded.before.before in
-    let args = (start tested).args in
+    let args = tested.args in
     let done = finished.finish.ensures in
     accepted_call args.table.now args.out.now (call_of args.call args.bytes.now) _
-    (same_reaction _ _ _ _ (known tested) loaded.unit-in.ensures noted.note.ensures
-    noted.before.is-active.ensures)
+    (same_reaction _ _ _ _ (known tested) loaded.unit_in-unit.ensures noted.note-noted.ensures
+    noted.is_active-was.ensures)
     (unrefused tested) done.0 done.1.0 done.1.1
 
 pub answer_spec : {M : Type 1} → statement M

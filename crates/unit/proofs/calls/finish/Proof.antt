@@ -7,30 +7,25 @@ use Rattle.unit.proofs.FinishedCalls.{parcel_most, few_bytes, all_done}
 use Rattle.unit.proofs.calls.finish.Statement.{statement}
 use Rattle.unit.proofs.calls.finish.Tie as tie
 
--- The function's entry, as the place after the reaction sees it.
-abbrev start : tie.After-react → tie.Start
-start c = c.before.before.before.before
-
 -- The bytes used are few.
-few : (c : tie.After-react) → c.react.result.used ≤ unit_limit * parcel_most
+few : (c : tie.After-react-reacted) → c.react-reacted.result.used ≤ unit_limit * parcel_most
 few c =
-    let args = (start c).args in
-    few_bytes args.unit (start c).requires.0 args.was args.new args.owed _ c.react.ensures.0
+    let args = c.args in
+    few_bytes args.unit c.requires.0 args.was args.new args.owed _ c.react-reacted.ensures.0
 
-cast_result : tie.Need-overflow-cast-result
+cast_result : tie.Need-overflow_cast-result
 cast_result c = omega (arith, few c.before.before.before.before.before.before.before.before.before)
 
-add_result : tie.Need-overflow-add-result
+add_result : tie.Need-overflow_add-result
 add_result c = omega (arith, few c.before.before.before.before.before.before.before.before.before)
 
 returns : tie.Need-returns
 returns c =
-    let reacted = c.before.before.before.before.before.before.before.before.before in
-    let args = (start reacted).args in
-    let pre = (start reacted).requires in
-    let done = reacted.react.ensures in
+    let args = c.args in
+    let pre = c.requires in
+    let done = c.react-reacted.ensures in
     all_done args.table.now pre.1 args.unit pre.0 args.was args.new args.owed args.out.now
-    done.0 done.1 c.before.before.before.put-unit.ensures
+    done.0 done.1 c.put_unit.ensures
 
 pub finish_spec : {M : Type 1} → statement M
 finish_spec =

@@ -9,50 +9,46 @@ use Rattle.unit.proofs.calls.take.Statement.{statement}
 use Rattle.unit.proofs.calls.take.Tie as tie
 
 -- The message that was taken.
-got : (c : tie.After-known-told)
+got : (c : tie.In-Message)
     → Taken
-    c.before.before.before.before.before.args.unit.count
-    c.before.before.before.before.before.args.bytes.now
-    c.before.answer.given.0.0
-    c.before.answer.given.0.1.0
-    c.before.answer.given.0.1.1.0
-    c.before.before.before.read.result.changes
+    c.args.unit.count
+    c.args.bytes.now
+    c.in-Message.kind
+    c.in-Message.sender
+    c.in-Message.entries
+    c.read-read.result.changes
 got c =
-    let begun = c.before.before.before.before.before in
-    taken _ begun.args.bytes.now c.before.before.before.read.result begun.requires.legal
-    c.before.before.before.read.ensures
-    c.before.answer.given.1
+    taken _ c.args.bytes.now c.read-read.result c.requires.legal
+    c.read-read.ensures
+    c.in-Message.is
 
-cast_read : tie.Need-overflow-cast-read
-cast_read c = omega (arith, c.before.requires.padded.count)
+cast_read : tie.Need-overflow_cast-count
+cast_read c = omega (arith, c.requires.padded.count)
 
-returns : tie.Need-returns
+returns : tie.Need-returns-in_default
 returns c =
-    let begun = c.before.before.before.before in
     absurd
-    (not_both _ begun.requires.message.0
-    (unread _ begun.args.bytes.now c.before.before.read.result begun.requires.legal
-    c.before.before.read.ensures
-    c.enum_told.given.1))
+    (not_both _ c.requires.message.0
+    (unread _ c.args.bytes.now c.read-read.result c.requires.legal
+    c.read-read.ensures
+    c.in_default.is))
 
-array_share_prefix_changes : tie.Need-array-share-prefix-changes
+array_share_prefix_changes : tie.Need-slice_bounds-changes-end
 array_share_prefix_changes c = (got c.before.before).share
 
-slice_aggregate_received : tie.Need-slice-aggregate-received
+slice_aggregate_received : tie.Need-slice_bounds-received-end
 slice_aggregate_received c = (got c.before.before.before).long
 
 received_requires : tie.Need-received-requires
 received_requires c κs =
-    let begun = c.before.before.before.before.before.before.before.before in
-    (begun.requires.padded, begun.requires.below, (got c.before.before.before).units)
+    (c.requires.padded, c.requires.below, (got c.before.before.before).units)
 
-returns_2 : tie.Need-returns-2
+returns_2 : tie.Need-returns
 returns_2 c =
-    let begun = c.before.before.before.before.before.before.before.before.before in
-    taken_noted begun.args.unit begun.args.from begun.args.bytes.now begun.requires.message.1
+    taken_noted c.args.unit c.args.from c.args.bytes.now c.requires.message.1
     (got c.before.before.before.before)
     c.received.ensures
-    (⊎_elim (λ w. inl (w.0.taken, w.1)) (λ w. inr (w.0.left, w.1)) c.before.before.if1.branch)
+    (⊎_elim (λ w. inl (w.0.taken, w.1)) (λ w. inr (w.0.left, w.1)) c.if-kind-lt2.branch)
 
 pub take_spec : {M : Type 1} → statement M
 take_spec =

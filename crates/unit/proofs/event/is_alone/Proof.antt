@@ -24,7 +24,7 @@ unfolding is_alone
 returns c =
     let start = c.before.before.before in
     let unit = start.args.unit in
-    c.is-nothing.ensures
+    c.is_nothing.ensures
     ∙ sym
     (ap not
     (some_number (take unit.count unit.costs) unit.count

@@ -12,34 +12,34 @@ use Rattle.rules.proofs.Applied.{applied_next}
 use Rattle.unit.proofs.noting.applied.Statement.{statement}
 use Rattle.unit.proofs.noting.applied.Tie as tie
 
-abbrev invariant_loop : tie.invariant-loop
+abbrev invariant_loop : tie.invariant-loop-i
 invariant_loop changes row₀ i₀ row i = (i ≤ length changes) × (length row ≡ unit_limit) × (row ≡ appliedTo row₀ (take i changes))
 
-abbrev decreases_loop : tie.decreases-loop
+abbrev decreases_loop : tie.decreases-loop-i
 decreases_loop changes row₀ i₀ row i = length changes - i
 
 -- The change that is read is of a unit that has a place, and fits its width.
-has_place : (c : tie.After-shared-slice-known2 invariant_loop decreases_loop)
-    → changed_unit (at c.before.before.before.before.args.changes.now c.before.before.loop.i) < unit_limit
-has_place c = c.before.before.before.before.requires c.before.before.loop.i c.before.loop-test.true
+has_place : (c : tie.After-shared_slice_known-in-loop-i-1 invariant_loop decreases_loop)
+    → changed_unit (at c.args.changes.now c.loop-i.i) < unit_limit
+has_place c = c.requires c.loop-i.i c.loop-i-test.true
 
-loop_holds : tie.Need-loop-init invariant_loop decreases_loop
+loop_holds : tie.Need-loop-i-init invariant_loop decreases_loop
 unfolding appliedTo
 loop_holds c = search rules
 
-cast_j : tie.Need-overflow-cast-j invariant_loop decreases_loop
-cast_j c = omega (arith, c.shared-slice-known2.given c.before.before.loop.i)
+cast_j : tie.Need-overflow_cast-j invariant_loop decreases_loop
+cast_j c = omega (arith, c.shared_slice_known-in-loop-i-1.given c.loop-i.i)
 
-mul_row : tie.Need-overflow-mul-row invariant_loop decreases_loop
+mul_row : tie.Need-offset_bounds-row-j invariant_loop decreases_loop
 mul_row c = omega (arith, has_place c.before)
 
-array_write_row : tie.Need-array-write-row invariant_loop decreases_loop
+array_write_row : tie.Need-bounds-row-j invariant_loop decreases_loop
 array_write_row c = omega (arith, has_place c.before)
 
-loop_again : tie.Need-loop-preserved invariant_loop decreases_loop
+loop_again : tie.Need-loop-i-preserved invariant_loop decreases_loop
 loop_again c =
-    let here = c.before.before.before.loop in
-    let args = c.before.before.before.before.before.args in (
+    let here = c.loop-i in
+    let args = c.args in (
       search rules,
       simp length-set here.invariant.1,
       rw (here.invariant.2, c.entry_of.ensures) (applied_next args.copy args.changes.now here.i (omega arith)),
@@ -47,9 +47,9 @@ loop_again c =
 
 returns : tie.Need-returns invariant_loop decreases_loop
 returns c =
-    let here = c.before.loop in
-    let changes = c.before.before.before.args.changes.now in
-    here.invariant.2 ∙ ap (appliedTo c.before.before.before.args.copy) (take_all here.i changes (omega arith))
+    let here = c.loop-i in
+    let changes = c.args.changes.now in
+    here.invariant.2 ∙ ap (appliedTo c.args.copy) (take_all here.i changes (omega arith))
 
 pub applied_spec : {M : Type 1} → statement M
 applied_spec =

@@ -22,53 +22,53 @@ use Rattle.unit.proofs.noting.changes_nothing.Tie as tie
 abbrev is_kept : (copy changes : List ℕ) (i : ℕ) → Bool
 is_kept copy changes i = eqb (at copy (changed_unit (at changes i))) (entry_of (body_of (at changes i)))
 
-abbrev invariant_loop : tie.invariant-loop
+abbrev invariant_loop : tie.invariant-loop-i
 invariant_loop changes copy i₀ i = (i ≤ length changes) × (some i (is_kept copy changes) ≡ false)
 
-abbrev decreases_loop : tie.decreases-loop
+abbrev decreases_loop : tie.decreases-loop-i
 decreases_loop changes copy i₀ i = length changes - i
 
 -- The change that is read is of a unit that has a place, and fits its width.
-has_place : (c : tie.After-shared-slice-known2 invariant_loop decreases_loop)
-    → changed_unit (at c.before.before.before.before.args.changes.now c.before.before.loop.i) < unit_limit
-has_place c = c.before.before.before.before.requires c.before.before.loop.i c.before.loop-test.true
+has_place : (c : tie.After-shared_slice_known-in-loop-i-1 invariant_loop decreases_loop)
+    → changed_unit (at c.args.changes.now c.loop-i.i) < unit_limit
+has_place c = c.requires c.loop-i.i c.loop-i-test.true
 
-cast_j : tie.Need-overflow-cast-j invariant_loop decreases_loop
-cast_j c = omega (arith, c.shared-slice-known2.given c.before.before.loop.i)
+cast_j : tie.Need-overflow_cast-j invariant_loop decreases_loop
+cast_j c = omega (arith, c.shared_slice_known-in-loop-i-1.given c.loop-i.i)
 
-mul_if1 : tie.Need-overflow-mul-if1 invariant_loop decreases_loop
+mul_if1 : tie.Need-offset_bounds-copy-j invariant_loop decreases_loop
 mul_if1 c = omega (arith, has_place c)
 
-array_read_if1 : tie.Need-array-read-if1 invariant_loop decreases_loop
+array_read_if1 : tie.Need-bounds-copy-j invariant_loop decreases_loop
 array_read_if1 c = omega (arith, has_place c)
 
-returns : tie.Need-returns invariant_loop decreases_loop
+returns : tie.Need-returns-then-copy-j invariant_loop decreases_loop
 unfolding changes_nothing
 returns c =
-    let here = c.before.before.before.before.loop in
-    let args = c.before.before.before.before.before.before.args in
+    let here = c.loop-i in
+    let args = c.args in
     sym
-    (some_of (length args.changes.now) (is_kept args.t1 args.changes.now) here.i
-    c.before.before.before.loop-test.true
-    (eq-eqb _ _ (c.if1.true ∙ c.before.entry_of.ensures)))
+    (some_of (length args.changes.now) (is_kept args.copy args.changes.now) here.i
+    c.loop-i-test.true
+    (eq-eqb _ _ (c.if-copy-j.true ∙ c.entry_of.ensures)))
 
-loop_again : tie.Need-loop-preserved invariant_loop decreases_loop
+loop_again : tie.Need-loop-i-preserved invariant_loop decreases_loop
 loop_again c =
-    let here = c.before.before.before.before.loop in
-    let args = c.before.before.before.before.before.before.args in
-    let kept = is_kept args.t1 args.changes.now in (
+    let here = c.loop-i in
+    let args = c.args in
+    let kept = is_kept args.copy args.changes.now in (
       search rules,
       rw add-one
           (neither_of (some here.i kept) (kept here.i) here.invariant.1
-          (ne_eqb _ _ (λ e. c.if1.false (e ∙ sym c.before.entry_of.ensures)))),
+          (ne_eqb _ _ (λ e. c.if-copy-j.false (e ∙ sym c.entry_of.ensures)))),
     )
 
-returns_2 : tie.Need-returns-2 invariant_loop decreases_loop
+returns_2 : tie.Need-returns invariant_loop decreases_loop
 unfolding changes_nothing
 returns_2 c =
-    let args = c.before.before.before.args in
-    let all : c.before.loop.i ≡ length args.changes.now = omega arith in
-    sym (rw (← all) c.before.loop.invariant.1)
+    let args = c.args in
+    let all : c.loop-i.i ≡ length args.changes.now = omega arith in
+    sym (rw (← all) c.loop-i.invariant.1)
 
 pub changes_nothing_spec : {M : Type 1} → statement M
 changes_nothing_spec =

@@ -42,67 +42,64 @@ copies_after c =
     else copies
 
 -- The waits are stored.
-waits_stored : (c : tie.Joined1) → c.if1.awaited ≡ laid_row (waits_after c.before.before.before.before)
+waits_stored : (c : tie.Joined-kind-eq1) → c.if-kind-eq1.awaited ≡ laid_row (waits_after c.before.before.before.before)
 waits_stored c =
-    let start = c.before.before.before.before in
-    let h = start.args.unit in
-    let p = start.requires.0 in
+    let h = c.args.unit in
+    let p = c.requires.0 in
     let own : h.awaited ≡ laid_row (unit_of h).awaited = ap (λ (g : Held). g.awaited) p.zeros in
     ⊎_elim
     (λ w.
     w.1
-    ∙ row_stored h.count p.count h.awaited start.args.sender 0 own start.requires.1
+    ∙ row_stored h.count p.count h.awaited c.args.sender 0 own c.requires.1
     ∙ ap laid_row (sym (if_true _ _ _ (eq-eqb _ _ w.0.taken))))
     (λ w. w.1 ∙ own ∙ ap laid_row (sym (if_false _ _ _ (ne_eqb _ _ w.0.left))))
-    c.if1.branch
+    c.if-kind-eq1.branch
 
 -- The sender's copy, changed, is stored.
-copy_changed : (c : tie.After-with-copy)
-    → c.with-copy.result
+copy_changed : (c : tie.After-with_copy)
+    → c.with_copy.result
     ≡ filled flat_length (joined (map laid_row (copies_after c.before.before.before.before.before.before.before.before.before)))
 copy_changed c =
-    let start = c.before.before.before.before.before.before.before.before.before in
-    let h = start.args.unit in
-    let p = start.requires.0 in
-    let k = start.args.sender in
-    let changes = start.args.changes.now in
+    let h = c.args.unit in
+    let p = c.requires.0 in
+    let k = c.args.sender in
+    let changes = c.args.changes.now in
     let copy = copy_of (unit_of h).copies k in
-    let long : length copy ≡ h.count = (padded_shaped h p).copy k start.requires.1 in
-    let laid : c.before.applied.result ≡ laid_row (applied copy changes) =
-    c.before.applied.ensures
-    ∙ ap (λ (row : List ℕ). applied row changes) c.before.before.copy-of.ensures
-    ∙ applied_filled unit_limit copy changes (λ i l. rw long (start.requires.2 i l)) in
-    c.with-copy.ensures
+    let long : length copy ≡ h.count = (padded_shaped h p).copy k c.requires.1 in
+    let laid : c.applied-copy.result ≡ laid_row (applied copy changes) =
+    c.applied-copy.ensures
+    ∙ ap (λ (row : List ℕ). applied row changes) c.copy_of.ensures
+    ∙ applied_filled unit_limit copy changes (λ i l. rw long (c.requires.2 i l)) in
+    c.with_copy.ensures
     ∙ ap (with_row h.copies k) laid
-    ∙ copy_stored h p k start.requires.1 (applied copy changes) (length_applied copy changes ∙ long)
+    ∙ copy_stored h p k c.requires.1 (applied copy changes) (length_applied copy changes ∙ long)
     ∙ ap (λ (copies : List (List ℕ)). filled flat_length (joined (map laid_row copies)))
-    (sym (if_true _ _ _ (le-leb _ _ c.before.before.before.if2.false)))
+    (sym (if_true _ _ _ (le-leb _ _ c.if-kind-lt2.false)))
 
-returns : tie.Need-returns
+returns : tie.Need-returns-then-kind-lt2
 unfolding noted
 returns c =
     let start = c.before.before.before.before.before.before.before in
     let h = start.args.unit in
     let p = start.requires.0 in
-    links_held h p (unit_of h).costs (waits_after start) (copies_after start) c.with-links.ensures
+    links_held h p (unit_of h).costs (waits_after start) (copies_after start) c.with_links.ensures
     (ap (λ (g : Held). g.costs) p.zeros)
     (waits_stored c.before.before.before)
     (ap (λ (g : Held). g.copies) p.zeros
     ∙ ap (λ (copies : List (List ℕ)). filled flat_length (joined (map laid_row copies)))
-    (sym (if_false _ _ _ (lt-leb _ _ c.before.if2.true))))
+    (sym (if_false _ _ _ (lt-leb _ _ c.if-kind-lt2.true))))
 
-applied_requires : tie.Need-applied-requires
+applied_requires : tie.Need-applied-copy-requires
 applied_requires c κs =
-    let start = c.before.before.before.before.before.before.before in
-    λ i l. omega (arith, start.requires.2 i l, start.requires.0.count)
+    λ i l. omega (arith, c.requires.2 i l, c.requires.0.count)
 
-returns_2 : tie.Need-returns-2
+returns_2 : tie.Need-returns
 unfolding noted
 returns_2 c =
     let start = c.before.before.before.before.before.before.before.before.before.before in
     let h = start.args.unit in
     let p = start.requires.0 in
-    links_held h p (unit_of h).costs (waits_after start) (copies_after start) c.with-links2.ensures
+    links_held h p (unit_of h).costs (waits_after start) (copies_after start) c.with_links-2.ensures
     (ap (λ (g : Held). g.costs) p.zeros)
     (waits_stored c.before.before.before.before.before.before)
     (copy_changed c.before)

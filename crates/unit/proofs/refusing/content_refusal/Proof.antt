@@ -24,142 +24,134 @@ legal c =
     count_legal c.args.unit.count known.low known.high
 
 -- The message that was taken.
-got : (c : tie.After-known-told)
+got : (c : tie.In-Message)
     → Taken
-    c.before.before.before.before.before.before.args.unit.count
-    c.before.before.before.before.before.before.args.bytes.now
-    c.before.answer.given.0.0
-    c.before.answer.given.0.1.0
-    c.before.answer.given.0.1.1.0
-    c.before.before.before.read.result.changes
+    c.args.unit.count
+    c.args.bytes.now
+    c.in-Message.kind
+    c.in-Message.sender
+    c.in-Message.entries
+    c.read-read.result.changes
 got c =
     let begun = c.before.before.before.before.before.before in
-    taken _ begun.args.bytes.now c.before.before.before.read.result (legal begun)
-    c.before.before.before.read.ensures
-    c.before.answer.given.1
-
--- Where it starts.
-abbrev start : tie.Joined2 → tie.Start
-start c = c.before.before.before.before.before.before.before.before.before
+    taken _ begun.args.bytes.now c.read-read.result (legal begun)
+    c.read-read.ensures
+    c.in-Message.is
 
 -- Its acknowledgment, if there is one, is awaited.
-awaited_by : (c : tie.Joined2)
-    → Awaited (start c).args.unit (start c).args.from (start c).args.bytes.now (start c).requires.0 (start c).requires.1
-    (got c.before.before.before) c.before.before.if1.false
-awaited_by c = ⊎_elim (λ w. inl (w.0.taken, w.1.left)) (λ w. inr w.left) c.if2.branch
+awaited_by : (c : tie.Joined-kind-eq1)
+    → Awaited c.args.unit c.args.from c.args.bytes.now c.requires.0 c.requires.1
+    (got c.before.before.before) c.if-sender-from.false
+awaited_by c = ⊎_elim (λ w. inl (w.0.taken, w.1.left)) (λ w. inr w.left) c.if-kind-eq1.branch
 
-cast_read : tie.Need-overflow-cast-read
-cast_read c = omega (arith, held_high c.before.before.requires.0)
+cast_read : tie.Need-overflow_cast-unit
+cast_read c = omega (arith, held_high c.requires.0)
 
-returns : tie.Need-returns
+returns : tie.Need-returns-in_default
 returns c =
     let begun = c.before.before.before.before.before.before in
-    let read = c.before.before.before.read in
-    let told = c.before.enum_told.given.1 in
-    passed_on _ begun.args.bytes.now read.result (legal begun) read.ensures told c.refusal-of.ensures
+    let read = c.read-read in
+    let told = c.in_default.is in
+    passed_on _ begun.args.bytes.now read.result (legal begun) read.ensures told c.refusal_of.ensures
     ∙ refused_unread (unit_of begun.args.unit) begun.args.from begun.args.bytes.now
     (unread _ begun.args.bytes.now read.result (legal begun) read.ensures told)
 
-returns_2 : tie.Need-returns-2
+returns_2 : tie.Need-returns-then-sender-from
 returns_2 c =
-    let begun = c.before.before.before.before.before.before.before in
     let message = got c.before in
-    refused_sender (unit_of begun.args.unit) begun.args.from begun.args.bytes.now message.legible
-    (λ e. c.if1.true (message.of_sender ∙ e))
+    refused_sender (unit_of c.args.unit) c.args.from c.args.bytes.now message.legible
+    (λ e. c.if-sender-from.true (message.of_sender ∙ e))
 
-array_read_if3 : tie.Need-array-read-if3
+array_read_if3 : tie.Need-bounds-awaited-from
 array_read_if3 c =
-    let begun = c.before.before.before.before.before.before.before.before.before in
-    omega (arith, begun.requires.1, held_high begun.requires.0)
+    omega (arith, c.requires.1, held_high c.requires.0)
 
-returns_3 : tie.Need-returns-3
+returns_3 : tie.Need-returns-then-awaited-from-eq0
 returns_3 c =
-    let begun = c.before.before.before.before.before.before.before.before.before.before in
-    refused_wait begun.args.unit begun.args.from begun.args.bytes.now begun.requires.0 begun.requires.1
-    (got c.before.before.before.before) c.before.before.before.if1.false
-    c.before.if2.true
-    c.if3.true
+    refused_wait c.args.unit c.args.from c.args.bytes.now c.requires.0 c.requires.1
+    (got c.before.before.before.before) c.if-sender-from.false
+    c.if-kind-eq1.true
+    c.if-awaited-from-eq0.true
 
-copy_of_requires : tie.Need-copy-of-requires
+copy_of_requires : tie.Need-copy_of-copy-requires
 copy_of_requires c κs =
-    let begun = c.before.before.before.before.before.before.before.before.before in
-    (held_padded begun.requires.0, begun.requires.1)
+    (held_padded c.requires.0, c.requires.1)
 
-array_share_prefix_changes : tie.Need-array-share-prefix-changes
+array_share_prefix_changes : tie.Need-slice_bounds-changes-end
 array_share_prefix_changes c = (got c.before.before.before.before.before).share
 
-slice_aggregate_changes_nothing : tie.Need-slice-aggregate-changes-nothing
+slice_aggregate_changes_nothing : tie.Need-slice_bounds-changes_nothing-end
 slice_aggregate_changes_nothing c = (got c.before.before.before.before.before.before).long
 
-changes_nothing_requires : tie.Need-changes-nothing-requires
+changes_nothing_requires : tie.Need-changes_nothing-requires
 changes_nothing_requires c κs i l =
     let joined = c.before.before.before in
-    omega (arith, (got joined.before.before.before).units i l, held_high (start joined).requires.0)
+    omega (arith, (got joined.before.before.before).units i l, held_high joined.requires.0)
 
-returns_4 : tie.Need-returns-4
+returns_4 : tie.Need-returns-then-changes_nothing
 returns_4 c =
     let joined = c.before.before.before.before.before in
     let begun = start joined in
     refused_idle begun.args.unit begun.args.from begun.args.bytes.now begun.pre.0 begun.pre.1
-    (got joined.before.before.before) joined.before.before.if1.false
+    (got joined.before.before.before) joined.if-sender-from.false
     (awaited_by joined)
-    c.before.before.before.before.copy-of.ensures c.before.changes-nothing.ensures c.if4.true
+    c.copy_of-copy.ensures c.changes_nothing.ensures c.if-changes_nothing.true
 
-array_share_prefix_changes_2 : tie.Need-array-share-prefix-changes-2
+array_share_prefix_changes_2 : tie.Need-slice_bounds-changes-end-2
 array_share_prefix_changes_2 c = (got c.before.before.before.before.before.before.before.before).share
 
-slice_aggregate_applied : tie.Need-slice-aggregate-applied
+slice_aggregate_applied : tie.Need-slice_bounds-applied-end
 slice_aggregate_applied c = (got c.before.before.before.before.before.before.before.before.before).long
 
-applied_requires : tie.Need-applied-requires
+applied_requires : tie.Need-applied-after-requires
 applied_requires c κs i l =
     let joined = c.before.before.before.before.before.before in
-    omega (arith, (got joined.before.before.before).units i l, held_high (start joined).requires.0)
+    omega (arith, (got joined.before.before.before).units i l, held_high joined.requires.0)
 
-array_share_prefix_after : tie.Need-array-share-prefix-after
+array_share_prefix_after : tie.Need-slice_bounds-after-end
 array_share_prefix_after c =
-    let long : length c.applied.result ≡ unit_limit = search rules in
-    omega (arith, held_high (start c.before.before.before.before.before.before.before).requires.0)
+    let long : length c.applied-after.result ≡ unit_limit = search rules in
+    omega (arith, held_high c.requires.0)
 
-slice_aggregate_is_tree : tie.Need-slice-aggregate-is-tree
+slice_aggregate_is_tree : tie.Need-slice_bounds-is_tree-end
 slice_aggregate_is_tree c =
     let joined = c.before.before.before.before.before.before.before.before in
     let begun = start joined in
     sym (after_length begun.args.unit begun.args.from begun.args.bytes.now begun.pre.0 begun.pre.1
-    (got joined.before.before.before) joined.before.before.if1.false
+    (got joined.before.before.before) joined.if-sender-from.false
     (awaited_by joined)
-    c.before.before.before.before.before.before.before.copy-of.ensures
-    c.before.before.before.before.changes-nothing.ensures
-    c.before.before.before.if4.false
-    c.before.applied.ensures)
+    c.copy_of-copy.ensures
+    c.changes_nothing.ensures
+    c.if-changes_nothing.false
+    c.applied-after.ensures)
 
-returns_5 : tie.Need-returns-5
+returns_5 : tie.Need-returns-then-not-is_tree
 returns_5 c =
     let joined = c.before.before.before.before.before.before.before.before.before.before in
     let begun = start joined in
     refused_tree begun.args.unit begun.args.from begun.args.bytes.now begun.pre.0 begun.pre.1
-    (got joined.before.before.before) joined.before.before.if1.false
+    (got joined.before.before.before) joined.if-sender-from.false
     (awaited_by joined)
-    c.before.before.before.before.before.before.before.before.before.copy-of.ensures
-    c.before.before.before.before.before.before.changes-nothing.ensures
-    c.before.before.before.before.before.if4.false
-    c.before.before.before.applied.ensures
-    c.before.is-tree.ensures
-    (not-true _ c.if5.true)
+    c.copy_of-copy.ensures
+    c.changes_nothing.ensures
+    c.if-changes_nothing.false
+    c.applied-after.ensures
+    c.is_tree.ensures
+    c.if-not-is_tree.true
 
-returns_6 : tie.Need-returns-6
+returns_6 : tie.Need-returns
 returns_6 c =
     let joined = c.before.before.before.before.before.before.before.before.before.before in
     let begun = start joined in
     refused_none begun.args.unit begun.args.from begun.args.bytes.now begun.pre.0 begun.pre.1
-    (got joined.before.before.before) joined.before.before.if1.false
+    (got joined.before.before.before) joined.if-sender-from.false
     (awaited_by joined)
-    c.before.before.before.before.before.before.before.before.before.copy-of.ensures
-    c.before.before.before.before.before.before.changes-nothing.ensures
-    c.before.before.before.before.before.if4.false
-    c.before.before.before.applied.ensures
-    c.before.is-tree.ensures
-    (not-false _ c.if5.false)
+    c.copy_of-copy.ensures
+    c.changes_nothing.ensures
+    c.if-changes_nothing.false
+    c.applied-after.ensures
+    c.is_tree.ensures
+    c.if-not-is_tree.false
 
 pub content_refusal_spec : {M : Type 1} → statement M
 content_refusal_spec =

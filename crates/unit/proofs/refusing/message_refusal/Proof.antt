@@ -15,36 +15,36 @@ use Rattle.unit.proofs.refusing.message_refusal.Statement.{statement}
 use Rattle.unit.proofs.refusing.message_refusal.Tie as tie
 
 -- The link has no refusal where the test went on.
-opened : (c : tie.Else1)
-    → let args = c.before.before.before.before.args in
+opened : (c : tie.Else-number-ne0)
+    → let args = c.args in
     Passed args.table.now args.room args.from true false
 opened c =
-    let args = c.before.before.before.before.args in
-    passed args.table.now args.room args.from true false c.before.first-refusal.ensures c.if1.false
+    let args = c.args in
+    passed args.table.now args.room args.from true false c.first_refusal-number.ensures c.if-number-ne0.false
 
-returns : tie.Need-returns
+returns : tie.Need-returns-then-number-ne0
 returns c =
-    let args = c.before.before.before.before.args in
-    link_refused args.table.now args.room args.from args.bytes.now c.before.first-refusal.ensures c.if1.true
+    let args = c.args in
+    link_refused args.table.now args.room args.from args.bytes.now c.first_refusal-number.ensures c.if-number-ne0.true
 
-content_refusal_requires : tie.Need-content-refusal-requires
+content_refusal_requires : tie.Need-content_refusal-requires
 content_refusal_requires c κs =
-    let words = c.before.before.before.before.before.args.table.now in
+    let words = c.args.table.now in
     let link = opened c.before in
-    let held = c.unit-in.ensures ∙ held_fit words link.ends.fit in (
+    let held = c.unit_in.ensures ∙ held_fit words link.ends.fit in (
       rw held (fit_held (unit_from words) (fit_unit_shaped words link.ends.fit) (table_fit words link.ends.fit)),
       rw (ap (λ (h : Held). h.count) held) link.ends.below,
     )
 
-returns_2 : tie.Need-returns-2
+returns_2 : tie.Need-returns
 returns_2 c =
     let tested = c.before.before in
-    let args = tested.before.before.before.before.args in
+    let args = tested.args in
     let words = args.table.now in
     let fit = (opened tested).ends.fit in
-    content_refused words args.room args.from args.bytes.now tested.before.first-refusal.ensures
-    tested.if1.false c.content-refusal.ensures
-    (ap unit_of (c.before.unit-in.ensures ∙ held_fit words fit) ∙ holds_back (unit_from words) (fit_unit_shaped words fit))
+    content_refused words args.room args.from args.bytes.now tested.first_refusal-number.ensures
+    tested.if-number-ne0.false c.content_refusal.ensures
+    (ap unit_of (c.unit_in.ensures ∙ held_fit words fit) ∙ holds_back (unit_from words) (fit_unit_shaped words fit))
 
 pub message_refusal_spec : {M : Type 1} → statement M
 message_refusal_spec =

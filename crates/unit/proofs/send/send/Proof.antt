@@ -17,128 +17,119 @@ use Rattle.unit.proofs.AllMessages.{bytes_for, picked, facts, small_tree, place_
 use Rattle.unit.proofs.send.send.Statement.{statement}
 use Rattle.unit.proofs.send.send.Tie as tie
 
-abbrev invariant_loop : tie.invariant-loop
+abbrev invariant_loop : tie.invariant-loop-k
 invariant_loop changed new owed out₀ count me costs some whole used₀ k₀ out used k =
     (k ≤ count) × (length out ≡ length out₀) × Laid k (bytes_for changed new owed me costs some whole) out₀ used out
 
-abbrev decreases_loop : tie.decreases-loop
+abbrev decreases_loop : tie.decreases-loop-k
 decreases_loop changed new owed out₀ count me costs some whole used₀ k₀ out used k = count - k
 
--- The function's start, from a turn of the loop.
-abbrev start : tie.In-loop invariant_loop decreases_loop → tie.Start invariant_loop decreases_loop
-start c = c.before.before.before.before.before.before.before
-
 -- The bytes that are laid for each neighbour.
-abbrev laid : (c : tie.In-loop invariant_loop decreases_loop) (k : ℕ) → List ℕ
+abbrev laid : (c : tie.In-loop-k invariant_loop decreases_loop) (k : ℕ) → List ℕ
 laid c =
-    let args = (start c).args in
+    let args = c.args in
     bytes_for args.changed args.new args.owed args.unit.me args.unit.costs
-    c.before.before.before.differences.result c.before.before.differences2.result
+    c.differences-some.result c.differences-whole.result
 
 -- Whether this neighbour is sent an update.
-abbrev sent : tie.In-loop invariant_loop decreases_loop → Bool
-sent c = sent_to (start c).args.unit.costs (start c).args.changed (start c).args.new c.before.loop.k
+abbrev sent : tie.In-loop-k invariant_loop decreases_loop → Bool
+sent c = sent_to c.args.unit.costs c.args.changed c.args.new c.loop-k.k
 
 -- The kind of its message.
-abbrev kind : tie.In-loop invariant_loop decreases_loop → ℕ
-kind c = kind_for (sent c) (eqb c.before.loop.k (start c).args.owed)
+abbrev kind : tie.In-loop-k invariant_loop decreases_loop → ℕ
+kind c = kind_for (sent c) (eqb c.loop-k.k c.args.owed)
 
 -- The changes in it.
-abbrev changes : tie.In-loop invariant_loop decreases_loop → Changes
+abbrev changes : tie.In-loop-k invariant_loop decreases_loop → Changes
 changes c =
-    picked (sent c) (eqb c.before.loop.k (start c).args.new)
-    c.before.before.differences2.result c.before.before.before.differences.result
+    picked (sent c) (eqb c.loop-k.k c.args.new)
+    c.differences-whole.result c.differences-some.result
 
 -- The code finds these changes.
-changes_are : (c : tie.After-changes-for invariant_loop decreases_loop) → c.changes-for.result ≡ changes c.before.before
-changes_are c = rw c.before.is-sent.ensures at c.changes-for.ensures
+changes_are : (c : tie.After-changes_for-changes invariant_loop decreases_loop) → c.changes_for-changes.result ≡ changes c.before.before
+changes_are c = rw c.is_sent-sent.ensures at c.changes_for-changes.ensures
 
 -- There is place for them in the array.
-changes_fit : (c : tie.After-changes-for invariant_loop decreases_loop) → c.changes-for.result.number ≤ length c.changes-for.result.list
+changes_fit : (c : tie.After-changes_for-changes invariant_loop decreases_loop) → c.changes_for-changes.result.number ≤ length c.changes_for-changes.result.list
 changes_fit c =
-    let turn = c.before.before in
     rw (changes_are c)
-    (place_for _ _ _ _ _ (start turn).requires _ _ _ turn.before.before.before.differences.ensures turn.before.before.differences2.ensures
-    turn.before.loop.k)
+    (place_for _ _ _ _ _ c.requires _ _ _ c.differences-some.ensures c.differences-whole.ensures
+    c.loop-k.k)
 
 -- It finds this kind.
-kind_is : (c : tie.After-kind-for invariant_loop decreases_loop) → c.kind-for.result ≡ kind c.before.before.before.before
-kind_is c = rw c.before.before.before.is-sent.ensures at c.kind-for.ensures
+kind_is : (c : tie.After-kind_for-kind invariant_loop decreases_loop) → c.kind_for-kind.result ≡ kind c.before.before.before.before
+kind_is c = rw c.is_sent-sent.ensures at c.kind_for-kind.ensures
 
 -- So the bytes laid are those.
-bytes_are : (c : tie.After-lay-one invariant_loop decreases_loop)
+bytes_are : (c : tie.After-lay_one-used invariant_loop decreases_loop)
     → bytes_to
-    c.before.before.before.before.before.before.before.before.loop.k
-    c.before.before.before.kind-for.result
-    (start c.before.before.before.before.before.before.before).args.unit.me
-    (list_in c.before.before.before.before.before.changes-for.result)
-    ≡ laid c.before.before.before.before.before.before.before c.before.before.before.before.before.before.before.before.loop.k
+    c.loop-k.k
+    c.kind_for-kind.result
+    c.args.unit.me
+    (list_in c.changes_for-changes.result)
+    ≡ laid c.before.before.before.before.before.before.before c.loop-k.k
 unfolding bytes_for
 bytes_are c = rw (kind_is c.before.before.before, changes_are c.before.before.before.before.before)
 
 -- The units are few.
-few : (c : tie.In-loop invariant_loop decreases_loop) → (start c).args.unit.count ≤ unit_limit
-few c = (facts _ _ _ _ _ (start c).requires).high
+few : (c : tie.In-loop-k invariant_loop decreases_loop) → c.args.unit.count ≤ unit_limit
+few c = (facts _ _ _ _ _ c.requires).high
 
-differences_requires : tie.Need-differences-requires invariant_loop decreases_loop
+differences_requires : tie.Need-differences-some-requires invariant_loop decreases_loop
 differences_requires c κs =
-    let start = c.before.before.before in
-    ((facts _ _ _ _ _ start.requires).high, small_tree _ _ _ _ _ start.requires)
+    ((facts _ _ _ _ _ c.requires).high, small_tree _ _ _ _ _ c.requires)
 
-differences_requires_2 : tie.Need-differences-requires-2 invariant_loop decreases_loop
+differences_requires_2 : tie.Need-differences-whole-requires invariant_loop decreases_loop
 differences_requires_2 c κs =
-    let start = c.before.before.before.before in
-    ((facts _ _ _ _ _ start.requires).high, small_tree _ _ _ _ _ start.requires)
+    ((facts _ _ _ _ _ c.requires).high, small_tree _ _ _ _ _ c.requires)
 
-loop_holds : tie.Need-loop-init invariant_loop decreases_loop
+loop_holds : tie.Need-loop-k-init invariant_loop decreases_loop
 loop_holds c = (omega arith, refl, (refl, refl))
 
-mul_is_sent : tie.Need-overflow-mul-is-sent invariant_loop decreases_loop
+mul_is_sent : tie.Need-offset_bounds-costs-k invariant_loop decreases_loop
 mul_is_sent c = omega (arith, few c)
 
-array_read_is_sent : tie.Need-array-read-is-sent invariant_loop decreases_loop
+array_read_is_sent : tie.Need-bounds-costs-k invariant_loop decreases_loop
 array_read_is_sent c = omega (arith, few c)
 
-array_share_prefix_list : tie.Need-array-share-prefix-list invariant_loop decreases_loop
+array_share_prefix_list : tie.Need-slice_bounds-list-end invariant_loop decreases_loop
 array_share_prefix_list c = changes_fit c.before.before
 
-slice_aggregate_lay_one : tie.Need-slice-aggregate-lay-one invariant_loop decreases_loop
+slice_aggregate_lay_one : tie.Need-slice_bounds-lay_one-end invariant_loop decreases_loop
 slice_aggregate_lay_one c = sym (length-take-le _ _ (changes_fit c.before.before.before))
 
-lay_one_requires : tie.Need-lay-one-requires invariant_loop decreases_loop
+lay_one_requires : tie.Need-lay_one-used-requires invariant_loop decreases_loop
 lay_one_requires c κs =
-    let turn = c.before.before.before.before.before.before in
-    let inv = turn.before.loop.invariant in
+    let inv = c.loop-k.invariant in
     sendable_as
-    (sendable_one _ _ _ _ _ (start turn).requires _ _ _ turn.before.before.before.differences.ensures turn.before.before.differences2.ensures
-    turn.before.loop.k turn.before.loop.used turn.loop-test.true inv.2.0)
+    (sendable_one _ _ _ _ _ c.requires _ _ _ c.differences-some.ensures c.differences-whole.ensures
+    c.loop-k.k c.loop-k.used c.loop-k-test.true inv.2.0)
     (kind_is c.before.before)
     (ap list_in (changes_are c.before.before.before.before))
     inv.1
 
-add_k : tie.Need-overflow-add-k invariant_loop decreases_loop
+add_k : tie.Need-overflow_add-k invariant_loop decreases_loop
 add_k c = omega (arith, few c.before.before.before.before.before.before.before.before.before)
 
-loop_again : tie.Need-loop-preserved invariant_loop decreases_loop
+loop_again : tie.Need-loop-k-preserved invariant_loop decreases_loop
 loop_again c =
     let called = c.before.before in
     let turn = called.before.before.before.before.before.before.before in
-    let inv = turn.before.loop.invariant in (
-      omega (arith, turn.loop-test.true),
-      called.lay-one.auto.1.1.1.1.1.0 ∙ inv.1,
-      laid_more turn.before.loop.k (laid turn) _ _ inv.2 (bytes_are called) called.lay-one.ensures.0 called.lay-one.ensures.1,
+    let inv = turn.loop-k.invariant in (
+      omega (arith, turn.loop-k-test.true),
+      called.lay_one-used.auto.1.1.1.1.1.0 ∙ inv.1,
+      laid_more turn.loop-k.k (laid turn) _ _ inv.2 (bytes_are called) called.lay_one-used.ensures.0 called.lay_one-used.ensures.1,
     )
 
-same_length : tie.Need-same-length invariant_loop decreases_loop
-same_length c = c.before.loop.invariant.1
+same_length : tie.Need-shape_of-out invariant_loop decreases_loop
+same_length c = c.loop-k.invariant.1
 
 returns : tie.Need-returns invariant_loop decreases_loop
 returns c =
-    let begun = c.before.before.before.before.before.before.before in
-    let told = c.before.loop.invariant.2 in
-    let last : c.before.loop.k ≡ begun.args.unit.count = omega arith in
-    let whole = sent_all _ _ _ _ _ begun.requires begun.args.new _ _ c.before.before.before.differences.ensures c.before.before.differences2.ensures in
-    (told.0 ∙ rw last (ap length whole), told.1 ∙ rw last (ap (λ (bytes : List ℕ). laid_after 0 bytes begun.args.out.now) whole))
+    let told = c.loop-k.invariant.2 in
+    let last : c.loop-k.k ≡ c.args.unit.count = omega arith in
+    let whole = sent_all _ _ _ _ _ c.requires c.args.new _ _ c.differences-some.ensures c.differences-whole.ensures in
+    (told.0 ∙ rw last (ap length whole), told.1 ∙ rw last (ap (λ (bytes : List ℕ). laid_after 0 bytes c.args.out.now) whole))
 
 pub send_spec : {M : Type 1} → statement M
 send_spec =

@@ -1,0 +1,22 @@
+-- `unit::noting::link_down` meets its contract. Cost and wait are stored by `row_stored`, the copy emptied by `copy_emptied`.
+use mathlib.Core.Path.{ap, ◌∙◌}
+use lib.ListN.{set}
+use Rattle.ground.specs.Rows.{zeros}
+use Rattle.rules.specs.Event.{noted}
+use Rattle.state.specs.Holding.{unit_of}
+use Rattle.state.specs.declared.held.Held.{Held}
+use Rattle.unit.proofs.NotedArrays.{row_stored, links_held, copy_emptied}
+use Rattle.unit.proofs.noting.link_down.Goals as goal
+
+pub returns : goal.returns
+unfolding noted
+returns c =
+    let h = c.args.unit in
+    let p = c.requires.0 in
+    let k = c.args.k in
+    links_held h p (set (unit_of h).costs k 0) (set (unit_of h).awaited k 0)
+    (set (unit_of h).copies k (zeros h.count))
+    c.with_links.ensures
+    (row_stored h.count p.count h.costs k 0 (ap (λ (g : Held). g.costs) p.zeros) c.requires.1)
+    (row_stored h.count p.count h.awaited k 0 (ap (λ (g : Held). g.awaited) p.zeros) c.requires.1)
+    (c.with_copy.ensures ∙ copy_emptied h p k c.requires.1)

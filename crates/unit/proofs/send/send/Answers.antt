@@ -1,0 +1,117 @@
+-- `unit::send::send` meets its contract: after each turn the bytes of the neighbours passed lie at the buffer's start.
+use Prim.Native.Nat.{ℕ, ◌≤◌}
+use native.Mathlib.Omega.{arith}
+use mathlib.Core.List.{List}
+use mathlib.Core.Path.{◌≡◌, refl, sym, ap, ◌∙◌}
+use lib.Dec.{eqb}
+use lib.ListN.{length}
+use lib.Seq.{length-take-le}
+use Rattle.ground.specs.Limits.{unit_limit}
+use Rattle.ground.specs.Rows.{laid_after}
+use Rattle.unit.specs.Sending.{kind_for, bytes_to}
+use Rattle.unit.proofs.LaidMessages.{sent_to, list_in, sendable_as, laid_more}
+use Rattle.unit.proofs.AllMessages.{bytes_for, picked, facts, small_tree, place_for, sendable_one, sent_all}
+use Rattle.unit.proofs.send.send.Goals as goal
+
+pub differences-some-requires : goal.differences-some-requires
+differences-some-requires c = ((facts _ _ _ _ _ c.requires).high, small_tree _ _ _ _ _ c.requires)
+
+pub differences-whole-requires : goal.differences-whole-requires
+differences-whole-requires c = ((facts _ _ _ _ _ c.requires).high, small_tree _ _ _ _ _ c.requires)
+
+pub loop-k-init : goal.loop-k-init
+loop-k-init c = (omega arith, refl, (refl, refl))
+
+-- The units are few.
+pub offset_bounds-costs-k : goal.offset_bounds-costs-k
+offset_bounds-costs-k c =
+    let few : c.args.unit.count ≤ unit_limit = (facts _ _ _ _ _ c.requires).high in
+    omega arith
+
+pub bounds-costs-k : goal.bounds-costs-k
+bounds-costs-k c =
+    let few : c.args.unit.count ≤ unit_limit = (facts _ _ _ _ _ c.requires).high in
+    omega arith
+
+-- There is place in the array for the changes that the code finds.
+pub slice_bounds-list-end : goal.slice_bounds-list-end
+slice_bounds-list-end c =
+    let args = c.args in
+    let k = c.loop-k.k in
+    let found : c.changes_for-changes.result
+    ≡ picked (sent_to args.unit.costs args.changed args.new k) (eqb k args.new)
+    c.differences-whole.result c.differences-some.result =
+    rw c.is_sent-sent.ensures at c.changes_for-changes.ensures in
+    rw found (place_for _ _ _ _ _ c.requires _ _ _ c.differences-some.ensures c.differences-whole.ensures k)
+
+pub slice_bounds-lay_one-end : goal.slice_bounds-lay_one-end
+slice_bounds-lay_one-end c =
+    let args = c.args in
+    let k = c.loop-k.k in
+    let found : c.changes_for-changes.result
+    ≡ picked (sent_to args.unit.costs args.changed args.new k) (eqb k args.new)
+    c.differences-whole.result c.differences-some.result =
+    rw c.is_sent-sent.ensures at c.changes_for-changes.ensures in
+    sym
+    (length-take-le _ _
+    (rw found (place_for _ _ _ _ _ c.requires _ _ _ c.differences-some.ensures c.differences-whole.ensures k)))
+
+pub lay_one-used-requires : goal.lay_one-used-requires
+lay_one-used-requires c =
+    let args = c.args in
+    let k = c.loop-k.k in
+    let inv = c.loop-k.invariant in
+    let found : c.changes_for-changes.result
+    ≡ picked (sent_to args.unit.costs args.changed args.new k) (eqb k args.new)
+    c.differences-whole.result c.differences-some.result =
+    rw c.is_sent-sent.ensures at c.changes_for-changes.ensures in
+    let kind : c.kind_for-kind.result ≡ kind_for (sent_to args.unit.costs args.changed args.new k) (eqb k args.owed) =
+    rw c.is_sent-sent.ensures at c.kind_for-kind.ensures in
+    sendable_as
+    (sendable_one _ _ _ _ _ c.requires _ _ _ c.differences-some.ensures c.differences-whole.ensures
+    k c.loop-k.used c.loop-k-test.true inv.2.0)
+    kind
+    (ap list_in found)
+    inv.1
+
+pub overflow_add-k : goal.overflow_add-k
+overflow_add-k c =
+    let few : c.args.unit.count ≤ unit_limit = (facts _ _ _ _ _ c.requires).high in
+    omega arith
+
+-- The bytes laid are the neighbour's.
+pub loop-k-preserved : goal.loop-k-preserved
+unfolding bytes_for
+loop-k-preserved c =
+    let args = c.args in
+    let k = c.loop-k.k in
+    let inv = c.loop-k.invariant in
+    let some = c.differences-some.result in
+    let whole = c.differences-whole.result in
+    let found : c.changes_for-changes.result
+    ≡ picked (sent_to args.unit.costs args.changed args.new k) (eqb k args.new) whole some =
+    rw c.is_sent-sent.ensures at c.changes_for-changes.ensures in
+    let kind : c.kind_for-kind.result ≡ kind_for (sent_to args.unit.costs args.changed args.new k) (eqb k args.owed) =
+    rw c.is_sent-sent.ensures at c.kind_for-kind.ensures in
+    let bytes : bytes_to k c.kind_for-kind.result args.unit.me (list_in c.changes_for-changes.result)
+    ≡ bytes_for args.changed args.new args.owed args.unit.me args.unit.costs some whole k =
+    rw (kind, found) in (
+      omega (arith, c.loop-k-test.true),
+      c.lay_one-used.auto.out ∙ inv.1,
+      laid_more k (bytes_for args.changed args.new args.owed args.unit.me args.unit.costs some whole) _ _ inv.2 bytes
+          c.lay_one-used.ensures.answer c.lay_one-used.ensures.laid,
+    )
+
+pub shape_of-out : goal.shape_of-out
+shape_of-out c = c.loop-k.invariant.1
+
+pub returns : goal.returns
+returns c =
+    let told = c.loop-k.invariant.2 in
+    let last : c.loop-k.k ≡ c.args.unit.count = omega arith in
+    let whole =
+    sent_all _ _ _ _ _ c.requires c.args.new _ _ c.differences-some.ensures c.differences-whole.ensures in
+    record {
+      answer = told.0 ∙ rw last (ap length whole);
+      laid = told.1 ∙ rw last (ap (λ (bytes : List ℕ). laid_after 0 bytes c.args.out.now) whole);
+    }

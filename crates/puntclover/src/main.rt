@@ -1,6 +1,6 @@
 // The script program. It has no meter.
 #![tactic(auto)]
 
-fn main() {
-    running::run(false);
+fn main(rt: HostRuntime) {
+    running::run(&rt, false);
 }

@@ -11,9 +11,10 @@ ghost use Rattle.std.specs.Prelude.{◌≤◌, ◌<◌, ◌≡◌, length};
 ghost use Rattle.frames.specs.MeterTable.{meter_words};
 
 use ground::{METER_WORDS, NETWORK_BYTES, NETWORK_WORDS};
-use libc::{STDIN_FILENO, STDOUT_FILENO};
 use script::answer::ANSWER_ROOM;
 use session::{KEPT_ROOM, Reached};
+use std::io;
+use std::io::{Read, Write};
 
 const INPUT_ROOM: usize = 65536;
 
@@ -41,13 +42,23 @@ fn stop() -> Progress
     }
 }
 
-// Writes answers out, and says whether that was done.
-fn write_out(answers: &[u8]) -> bool {
-    let is_written = io::write_all(STDOUT_FILENO, answers);
-    if !is_written {
-        os::fail(b"write");
+// Tells on standard error what failed, and why. Where that can't be written either, nobody is left to be told.
+fn tell(rt: &HostRuntime, what: &str, error: io::Error) {
+    match eprintln!(rt; "{what}: {error}") {
+        Ok(()) => {}
+        Err(_) => {}
     }
-    is_written
+}
+
+// Writes answers out, and says whether that was done.
+fn write_out(rt: &HostRuntime, answers: &[u8]) -> bool {
+    match rt.stdout().write_all(answers) {
+        Ok(()) => true,
+        Err(error) => {
+            tell(rt, "write", error);
+            false
+        }
+    }
 }
 
 // From where a call came to, if its answers were written.
@@ -67,6 +78,7 @@ fn go_on(is_written: bool, filled: usize, reached: Reached) -> Progress
 
 // Feeds the chunk from the place that is next, and writes the answers.
 fn feed_chunk(
+    rt: &HostRuntime,
     words: &mut [u32],
     queues: &mut [u8],
     meter: &mut [u32],
@@ -89,31 +101,32 @@ fn feed_chunk(
         0,
     );
     let used = reached.used;
-    let is_written = write_out(&out[..used]);
+    let is_written = write_out(rt, &out[..used]);
     go_on(is_written, progress.filled, reached)
 }
 
 // Reads the next chunk. At the end of the input there is no going on, and the line so far is still held; where reading failed
 // there is none.
-fn next_chunk(input: &mut [u8], held: usize) -> Progress
+fn next_chunk(rt: &HostRuntime, input: &mut [u8], held: usize) -> Progress
     ensures { result.filled ≤ length input.new }
 {
-    let got = libc::read(STDIN_FILENO, input);
-    if got < 0 {
-        os::fail(b"read");
-        return stop();
-    }
-    let filled = io::count(got, input);
-    Progress {
-        filled,
-        place: 0,
-        held,
-        going: 0 < filled,
+    match rt.stdin().read(input) {
+        Ok(filled) => Progress {
+            filled,
+            place: 0,
+            held,
+            going: 0 < filled,
+        },
+        Err(error) => {
+            tell(rt, "read", error);
+            stop()
+        }
     }
 }
 
 // One turn: the rest of the chunk, or the next one.
 fn turn(
+    rt: &HostRuntime,
     words: &mut [u32],
     queues: &mut [u8],
     meter: &mut [u32],
@@ -127,9 +140,9 @@ fn turn(
 {
     let filled = progress.filled;
     if progress.place < filled {
-        return feed_chunk(words, queues, meter, line, &input[..filled], out, progress);
+        return feed_chunk(rt, words, queues, meter, line, &input[..filled], out, progress);
     }
-    next_chunk(input, progress.held)
+    next_chunk(rt, input, progress.held)
 }
 
 // The turns that are left after one: none where there is no going on.
@@ -146,6 +159,7 @@ fn left(turns: u64, going: bool) -> u64
 // All chunks of the input; answers the bytes held of a last line. A proved loop has to end: it counts down from a number that
 // no run uses up.
 fn feed_all(
+    rt: &HostRuntime,
     words: &mut [u32],
     queues: &mut [u8],
     meter: &mut [u32],
@@ -161,7 +175,7 @@ fn feed_all(
     };
     let mut turns = u64::MAX;
     while 0 < turns {
-        progress = turn(words, queues, meter, line, input, out, progress);
+        progress = turn(rt, words, queues, meter, line, input, out, progress);
         turns = left(turns, progress.going);
     }
     progress.held
@@ -169,6 +183,7 @@ fn feed_all(
 
 // The whole script: all chunks, and then what is left of the input is answered and written.
 fn run_all(
+    rt: &HostRuntime,
     words: &mut [u32],
     queues: &mut [u8],
     meter: &mut [u32],
@@ -176,10 +191,10 @@ fn run_all(
     input: &mut [u8],
     out: &mut [u8],
 ) {
-    let held = feed_all(words, queues, meter, line, input, out);
+    let held = feed_all(rt, words, queues, meter, line, input, out);
     let reached = session::finish(words, queues, meter, line, held, out, 0);
     let used = reached.used;
-    write_out(&out[..used]);
+    write_out(rt, &out[..used]);
 }
 
 // The numbers of the meter that are lent: all of them, or none.
@@ -193,7 +208,7 @@ fn lent_words(metered: bool) -> usize
 }
 
 // Runs a program, with a meter or without. It answers nothing and lends nothing: all that it does is read and written.
-pub fn run(metered: bool)
+pub fn run(rt: &HostRuntime, metered: bool)
     ensures { result ≡ tt }
 {
     let mut words = [0u32; NETWORK_WORDS];
@@ -204,6 +219,7 @@ pub fn run(metered: bool)
     let mut out = [0u8; OUT_ROOM];
     let lent = lent_words(metered);
     run_all(
+        rt,
         &mut words,
         &mut queues,
         &mut meter[..lent],

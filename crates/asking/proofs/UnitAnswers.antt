@@ -7,7 +7,7 @@ use mathlib.Core.Logic.{◌≢◌}
 use mathlib.Core.Path.{◌≡◌, refl, sym, ap, ◌∙◌}
 use borrow.Author.Tests.{ltb-true, not-false, lt-ltb, ne_eqb}
 use lib.Dec.{eqb, ltb}
-use Rattle.ground.specs.Choice.{if◌then◌else◌}
+use Rattle.std.specs.Prelude.{if◌then◌else◌}
 use Rattle.ground.specs.Refusal.{accepted, ◌gives◌, ◌otherwise◌, answer_base}
 use Rattle.ground.specs.Rows.{at}
 use Rattle.rules.specs.Hub.{reachable, active_answer, question_refusal, distance_answer, feasible_answer, successors_answer, link_answer, awaits_answer}

@@ -1,7 +1,7 @@
 -- Order: all that is asked of unit i of a network at once, its row or the refusal; and one question about a pair of units,
 -- whichever it is. proofs/UnitAnswers.antt shows that they are the rules' answers.
 use Rattle.std.specs.Prelude.{ℕ, List, eqb}
-use Rattle.ground.specs.Choice.{if◌then◌else◌}
+use Rattle.std.specs.Prelude.{if◌then◌else◌}
 use Rattle.ground.specs.Refusal.{accepted}
 use Rattle.rules.specs.Network.{unit_at}
 use Rattle.rules.specs.NetworkTable.{unit_refusal, distance_between, feasible_between, successors_between, link_between, awaits_between}

@@ -7,7 +7,7 @@ use mathlib.Core.Path.{◌≡◌, ap, ◌∙◌}
 use borrow.Author.Tests.{eq-eqb, ne_eqb}
 use lib.Dec.{eqb}
 use lib.ListN.{length}
-use Rattle.ground.specs.Choice.{if◌then◌else◌}
+use Rattle.std.specs.Prelude.{if◌then◌else◌}
 use Rattle.rules.specs.Tables.{words_of}
 
 module _ (table : List ℕ) (question : List ℕ → ℕ) {many : ℕ} where

@@ -1,7 +1,7 @@
 -- Rule: one unit at the C border: "At that border a table is bytes, 4 for each number, high byte first." A table of another length
 -- is unfit.
 use Rattle.std.specs.Prelude.{ℕ, ◌*◌, Bool, List, eqb, length}
-use Rattle.ground.specs.Choice.{if◌then◌else◌}
+use Rattle.std.specs.Prelude.{if◌then◌else◌}
 use Rattle.rules.specs.Hub.{HubCall, hub_answer, hub_fresh_refusal, table_answer, table_after, buffer_after, fresh_table, active_answer, distance_answer, feasible_answer, successors_answer, link_answer, awaits_answer}
 use Rattle.rules.specs.Tables.{unit_words, bytes_of, words_of}
 

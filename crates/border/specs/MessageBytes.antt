@@ -1,6 +1,6 @@
 -- Rule: the reader and the writer at the C border: a message's fields as a table of bytes, and changes as bytes, 4 for each.
 use Rattle.std.specs.Prelude.{ℕ, ◌*◌, ◌/◌, ◌%◌, Bool, List, [], ◌++◌, eqb, length, drop}
-use Rattle.ground.specs.Choice.{if◌then◌else◌}
+use Rattle.std.specs.Prelude.{if◌then◌else◌}
 use Rattle.ground.specs.Refusal.{accepted, ◌otherwise◌}
 use Rattle.rules.specs.Message.{message_of}
 use Rattle.rules.specs.Tables.{bytes_of, words_of}

@@ -1,7 +1,7 @@
 -- Rule: a meter at the C border: its table as bytes, 4 for each number, high byte first, beside a network's units and queues.
 -- Tables of another length are unfit.
 use Rattle.std.specs.Prelude.{ℕ, ◌*◌, Bool, not, ◌&&◌, List, eqb, length}
-use Rattle.ground.specs.Choice.{if◌then◌else◌}
+use Rattle.std.specs.Prelude.{if◌then◌else◌}
 use Rattle.ground.specs.Refusal.{accepted, ◌gives◌}
 use Rattle.rules.specs.Tables.{bytes_of, words_of}
 use Rattle.frames.specs.Meter.{fresh_meter, MeterCall, enters, moves, drops}

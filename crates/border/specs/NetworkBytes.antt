@@ -1,7 +1,7 @@
 -- Rule: a network at the C border: the units' tables as bytes, 4 for each number, high byte first, beside the queues, which are bytes
 -- already. Units' tables of another length are unfit.
 use Rattle.std.specs.Prelude.{ℕ, ◌*◌, Bool, not, ◌&&◌, List, eqb, length}
-use Rattle.ground.specs.Choice.{if◌then◌else◌}
+use Rattle.std.specs.Prelude.{if◌then◌else◌}
 use Rattle.ground.specs.Refusal.{accepted, ◌gives◌, ◌otherwise◌}
 use Rattle.rules.specs.Hub.{hub_answer}
 use Rattle.rules.specs.Network.{Call, up, cost, down, deliver, fresh, fresh_refusal}

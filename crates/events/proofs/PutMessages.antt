@@ -10,7 +10,7 @@ use borrow.Author.Tests.{ne_eqb, leb-true}
 use lib.Dec.{eqb, leb}
 use lib.ListN.{length, get_or, set, length-append, get_or-append}
 use lib.Seq.{get_or-append-add, set-get_or}
-use Rattle.ground.specs.Choice.{if◌then◌else◌}
+use Rattle.std.specs.Prelude.{if◌then◌else◌}
 use Rattle.ground.specs.Limits.{queue_room}
 use Rattle.rules.specs.Event.{Reaction}
 use Rattle.rules.specs.Message.{Message, written}

@@ -2,7 +2,7 @@
 -- proofs/HeldNetwork.antt shows that the tables are then those of `reacted`, and proofs/MessageRoom.antt that without room the
 -- network `overflows`.
 use Rattle.std.specs.Prelude.{ℕ, Bool, ◌&&◌, List}
-use Rattle.ground.specs.Choice.{if◌then◌else◌}
+use Rattle.std.specs.Prelude.{if◌then◌else◌}
 use Rattle.ground.specs.Refusal.{answer_base}
 use Rattle.ground.specs.Rows.{at, zeros}
 use Rattle.rules.specs.Tables.{queue_bytes}

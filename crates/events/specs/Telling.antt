@@ -1,7 +1,7 @@
 -- Order: a unit's event, told to a copy of its table with a buffer of zeros for its messages. proofs/ToldUnit.antt shows that
 -- the copy then holds what the rules' `reaction` leaves.
 use Rattle.std.specs.Prelude.{ℕ, ◌-◌, List, eqb, take}
-use Rattle.ground.specs.Choice.{if◌then◌else◌}
+use Rattle.std.specs.Prelude.{if◌then◌else◌}
 use Rattle.ground.specs.Limits.{firmware_room}
 use Rattle.ground.specs.Refusal.{answer_base}
 use Rattle.ground.specs.Rows.{at, zeros}

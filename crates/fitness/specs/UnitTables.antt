@@ -2,7 +2,7 @@
 -- proofs/TableThere.antt and proofs/FitTables.antt lead from the tables of a network to these.
 use Rattle.std.specs.Prelude.{ℕ, ◌*◌, ◌+◌, Bool, not, ◌&&◌, List, eqb, ltb, length}
 use Rattle.std.proofs.Math.Seq.{paste}
-use Rattle.ground.specs.Choice.{if◌then◌else◌}
+use Rattle.std.specs.Prelude.{if◌then◌else◌}
 use Rattle.ground.specs.Limits.{unit_limit}
 use Rattle.ground.specs.Rows.{at, zeros}
 use Rattle.rules.specs.Tables.{unit_words, network_words, part, costs_at}

@@ -4,7 +4,7 @@ use native.Mathlib.Omega.{arith}
 use mathlib.Core.Bool.{Bool, true, false}
 use mathlib.Core.List.{List, [], ◌∷◌}
 use mathlib.Core.Path.{◌≡◌, refl}
-use Rattle.ground.specs.Choice.{if◌then◌else◌}
+use Rattle.std.specs.Prelude.{if◌then◌else◌}
 use Rattle.frames.specs.Meter.{Fate, as_held, as_delivered, as_dropped}
 use Rattle.frames.specs.Account.{Accepted, brought_bytes, was_held, was_delivered, was_dropped, became, bytes_that}
 use Rattle.frames.specs.Account.{bytes_entered, bytes_delivered, bytes_dropped, bytes_held}

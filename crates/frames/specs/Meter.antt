@@ -1,7 +1,7 @@
 -- Rule: the meter over the routes: "A frame enters, moves one hop to a named present successor, or is dropped; at its destination
 -- it is delivered."
 use Rattle.std.specs.Prelude.{ℕ, suc, ◌+◌, Bool, not, ◌&&◌, List, eqb, ltb, leb, get_or, set}
-use Rattle.ground.specs.Choice.{if◌then◌else◌}
+use Rattle.std.specs.Prelude.{if◌then◌else◌}
 use Rattle.ground.specs.Limits.{frame_limit, legal_size, hop_limit, entered_limit}
 use Rattle.ground.specs.Refusal.{◌gives◌, ◌otherwise◌}
 use Rattle.ground.specs.Rows.{tab, every, total, lowest}

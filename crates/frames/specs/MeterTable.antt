@@ -2,7 +2,7 @@
 -- it takes two numbers, the high one first; each place takes four. Each meter has one table, and each table of this length
 -- one meter.
 use Rattle.std.specs.Prelude.{ℕ, ◌+◌, ◌*◌, ◌/◌, ◌%◌, Bool, not, ◌&&◌, List, [], ◌∷◌, ◌++◌, map, eqb, length}
-use Rattle.ground.specs.Choice.{if◌then◌else◌}
+use Rattle.std.specs.Prelude.{if◌then◌else◌}
 use Rattle.ground.specs.Limits.{frame_limit, far}
 use Rattle.ground.specs.Refusal.{accepted, answer_base, ◌gives◌, ◌otherwise◌}
 use Rattle.ground.specs.Rows.{at, tab, joined}

@@ -12,7 +12,7 @@ use lib.Dec.{eqb, ltb}
 use lib.ListN.{length, get_or, length-append, get_or-append}
 use lib.Seq.{get_or_at, ext_get_or}
 use borrow.Author.Tests.{ltb-true, ltb-false, eqb-true, eq-eqb}
-use Rattle.ground.specs.Choice.{if◌then◌else◌}
+use Rattle.std.specs.Prelude.{if◌then◌else◌}
 use Rattle.ground.specs.Limits.{far}
 use Rattle.ground.specs.Rows.{at, tab, every, some, least, lowest, same}
 use Rattle.ground.proofs.Tests.{both, both_of, either, either_left, either_right, neither, not_both, not_yes}

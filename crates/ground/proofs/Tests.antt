@@ -1,12 +1,11 @@
 -- What a test tells: that it is true or false and not both, what two tests joined tell of each, and which branch a
 -- choice by a test takes.
-use mathlib.Core.Bool.{Bool, true, false, not, ◌&&◌, ◌||◌, true≢false, false≢true}
+use mathlib.Core.Bool.{Bool, cond, true, false, not, ◌&&◌, ◌||◌, true≢false, false≢true}
 use mathlib.Core.Logic.{◌⊎◌, inl, inr, ⊎_elim, ◌≢◌}
 use mathlib.Core.Path.{◌≡◌, refl, sym}
 use Prim.Native.Nat.{ℕ, ◌≤◌, ◌<◌}
 use lib.Dec.{eqb, ltb}
 use borrow.Author.Tests.{eqb-true, eqb-false, ltb-true, ltb-false}
-use Rattle.ground.specs.Choice.{if◌then◌else◌}
 
 -- A test that is not true is false.
 pub not_yes : (a : Bool) → (a ≡ true → ⊥) → a ≡ false
@@ -78,12 +77,12 @@ not_of_false true p = absurd (true≢false p)
 not_of_false false p = refl
 
 -- A choice by a test that is true is its first branch.
-pub if_true {ℓ} : {A : Type ℓ} (t : Bool) (a b : A) → t ≡ true → (if t then a else b) ≡ a
+pub if_true {ℓ} : {A : Type ℓ} (t : Bool) (a b : A) → t ≡ true → cond t a b ≡ a
 if_true true a b e = refl
 if_true false a b e = absurd (false≢true e)
 
 -- A choice by a test that is false is its second branch.
-pub if_false {ℓ} : {A : Type ℓ} (t : Bool) (a b : A) → t ≡ false → (if t then a else b) ≡ b
+pub if_false {ℓ} : {A : Type ℓ} (t : Bool) (a b : A) → t ≡ false → cond t a b ≡ b
 if_false true a b e = absurd (true≢false e)
 if_false false a b e = refl
 

@@ -1,7 +1,6 @@
--- What every rule is written with: bytes that have a meaning, a choice, rows of numbers, what holds of each member of a list,
+-- What every rule is written with: bytes that have a meaning, rows of numbers, what holds of each member of a list,
 -- numbers that are distinct, the product's limits, refusals, what an answer says, and what it is that a contract leaves one output.
 pub mod Bytes
-pub mod Choice
 pub mod Distinct
 pub mod Each
 pub mod Limits

@@ -1,7 +1,7 @@
 -- Rule: "The lowest number that applies is given." Refusals are written by rising number, and the first that applies
 -- counts.
 use Rattle.std.specs.Prelude.{ℕ, Bool, eqb}
-use Rattle.ground.specs.Choice.{if◌then◌else◌}
+use Rattle.std.specs.Prelude.{if◌then◌else◌}
 
 infix 25 ◌gives◌
 infixr 12 ◌otherwise◌

@@ -1,7 +1,8 @@
 -- Words: rows, which are lists of numbers indexed by unit, and questions over all units below a count. Each recursion runs as
 -- a loop that counts up runs, so that one more turn of the loop is one more step of the definition.
 use Rattle.std.specs.Prelude.{ℕ, zero, suc, ◌+◌, ◌-◌, ◌/◌, ◌%◌, ◌^◌, min, Bool, true, false, ◌&&◌, ◌||◌, List, [], ◌∷◌, ◌++◌, map, eqb, ltb, leb, length, get_or, replicate, take, drop}
-use Rattle.ground.specs.Choice.{if◌then◌else◌}
+use Rattle.std.specs.Prelude.{if◌then◌else◌}
+use mathlib.Core.Bool.{cond}
 use Rattle.ground.specs.Limits.{far, unit_limit}
 
 -- What a row holds for a unit; 0 past its end.
@@ -70,7 +71,7 @@ filled m xs = xs ++ zeros (m - length xs)
 
 -- What is worked out for the units below n: nothing where n is above the limit.
 abbrev pub counted {ℓ} : {A : Type ℓ} → (n : ℕ) → List A → List A
-counted n xs = if leb n unit_limit then xs else []
+counted n xs = cond (leb n unit_limit) xs []
 
 -- Rows filled up with zeros to m places, and with rows of zeros to m rows.
 abbrev pub filled_rows : ℕ → List (List ℕ) → List (List ℕ)

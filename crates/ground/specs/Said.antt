@@ -1,7 +1,7 @@
 -- Rule: what an answer says: "a definition states this paper's number and values for each of its cases". Code answers by enums; for
 -- each of them one definition gives the number and the values of every case, and the promises speak of these.
 use Rattle.std.specs.Prelude.{ℕ, List, [], eqb}
-use Rattle.ground.specs.Choice.{if◌then◌else◌}
+use Rattle.std.specs.Prelude.{if◌then◌else◌}
 use Rattle.ground.specs.Refusal.{accepted}
 
 -- The number is a refusal's or that of none; the values follow it.

@@ -2,7 +2,7 @@
 -- of network calls and meter calls mixed, with any arguments, refused ones included, each leaving the tables that its contract
 -- gives; the calls of the meter that were accepted; and the units that a frame meets.
 use Rattle.std.specs.Prelude.{ℕ, Bool, ◌&&◌, List, [], ◌∷◌, ◌≡◌, eqb}
-use Rattle.ground.specs.Choice.{if◌then◌else◌}
+use Rattle.std.specs.Prelude.{if◌then◌else◌}
 use Rattle.ground.specs.Refusal.{accepted}
 use Rattle.rules.specs.Network.{Call}
 use Rattle.frames.specs.Account.{Accepted, is_about}

@@ -7,7 +7,7 @@ use mathlib.Core.Path.{◌≡◌, refl, ◌∙◌}
 use borrow.Author.Tests.{eqb-true}
 use lib.Dec.{eqb}
 use lib.ListN.{length, take, drop}
-use Rattle.ground.specs.Choice.{if◌then◌else◌}
+use Rattle.std.specs.Prelude.{if◌then◌else◌}
 use Rattle.ground.specs.Rows.{at, same}
 use Rattle.ground.proofs.Tests.{both}
 use Rattle.lines.specs.Commands.{argument, is_spelled, meter_command_of, command_of}

@@ -9,7 +9,7 @@ use mathlib.Core.Path.{◌≡◌, refl, sym, ap, ◌∙◌}
 use borrow.Author.Tests.{eqb-true}
 use lib.ListN.{length, take, drop, length-take, length-drop}
 use lib.Seq.{take_all}
-use Rattle.ground.specs.Choice.{if◌then◌else◌}
+use Rattle.std.specs.Prelude.{if◌then◌else◌}
 use Rattle.ground.proofs.Lists.{parts}
 use Rattle.ground.proofs.Rows.{lowest_le, same_eq}
 use Rattle.ground.proofs.Tests.{less_or_not, not_yes}

@@ -1,7 +1,7 @@
 -- Rule: "a command on each line: `units n`, `up a b ca cb`, `cost a b c`, `down a b`, `deliver a b`, `show`; single spaces,
 -- decimals of at most 9 digits without leading zeros." Where there is a meter, also `enter s i j`, `move f k`, `drop f`, `page`.
 use Rattle.std.specs.Prelude.{ℕ, zero, suc, ◌+◌, ◌*◌, Bool, ◌&&◌, List, eqb, leb, length, drop}
-use Rattle.ground.specs.Choice.{if◌then◌else◌}
+use Rattle.std.specs.Prelude.{if◌then◌else◌}
 use Rattle.ground.specs.Rows.{same}
 use Rattle.lines.specs.Words.{first_word, after_word, digit_limit, is_decimal, value_of}
 use Rattle.lines.specs.Words.{units_name, up_name, cost_name, down_name, deliver_name, show_name}

@@ -1,7 +1,7 @@
 -- Order: what is found of the decimals that follow a word, and the command that a word and they are. proofs/Choosing.antt shows
 -- that it is `command_of`.
 use Rattle.std.specs.Prelude.{ℕ, ◌≤◌, ◌<◌, Bool, ◌&&◌, List, ◌≡◌, eqb}
-use Rattle.ground.specs.Choice.{if◌then◌else◌}
+use Rattle.std.specs.Prelude.{if◌then◌else◌}
 use Rattle.ground.specs.Rows.{at, same}
 use Rattle.lines.specs.Commands.{is_arguments, argument}
 use Rattle.lines.specs.Words.{units_name, up_name, cost_name, down_name, deliver_name, show_name}

@@ -1,6 +1,6 @@
 -- Order: the lines of `show` from what is asked of a unit. proofs/ShownUnits.antt shows that they are `unit_lines`.
 use Rattle.std.specs.Prelude.{ℕ, List, [], ◌++◌, eqb}
-use Rattle.ground.specs.Choice.{if◌then◌else◌}
+use Rattle.std.specs.Prelude.{if◌then◌else◌}
 use Rattle.ground.specs.Rows.{at, tab, joined, is_in}
 use Rattle.state.specs.declared.questions.Row.{Row}
 use Rattle.texts.specs.Printed.{state_line, pair_line}

@@ -1,6 +1,6 @@
 -- Rule: what `show` prints of a network's units.
 use Rattle.std.specs.Prelude.{ℕ, List, [], ◌++◌, eqb}
-use Rattle.ground.specs.Choice.{if◌then◌else◌}
+use Rattle.std.specs.Prelude.{if◌then◌else◌}
 use Rattle.ground.specs.Rows.{at, tab, joined}
 use Rattle.rules.specs.Network.{Network, unit_at}
 use Rattle.rules.specs.Tables.{network_from, fit_tables}

@@ -10,7 +10,7 @@ use mathlib.Core.Path.{◌≡◌, refl, sym, subst, ◌∙◌}
 use lib.ListN.{length, set, length-set}
 use lib.Seq.{get_or-set_same, get_or-set_other}
 use borrow.Author.Tests.{ne_eqb}
-use Rattle.ground.specs.Choice.{if◌then◌else◌}
+use Rattle.std.specs.Prelude.{if◌then◌else◌}
 use Rattle.ground.specs.Limits.{highest_cost}
 use Rattle.ground.specs.Rows.{at, zeros}
 use Rattle.tree.specs.Recompute.{copy_of}

@@ -9,7 +9,7 @@ use mathlib.Core.Path.{◌≡◌, refl, sym, ap, ◌∙◌, subst₂}
 use lib.Dec.{eqb}
 use lib.ListN.{length, get_or, length-replicate}
 use borrow.Author.Tests.{not-true, eq-eqb}
-use Rattle.ground.specs.Choice.{if◌then◌else◌}
+use Rattle.std.specs.Prelude.{if◌then◌else◌}
 use Rattle.ground.specs.Limits.{unit_limit}
 use Rattle.ground.specs.Rows.{at, zeros, same, some}
 use Rattle.ground.proofs.Rows.{length_tab, tab_at, eq_same, some_at}

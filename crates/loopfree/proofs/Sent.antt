@@ -8,7 +8,7 @@ use mathlib.Core.Path.{◌≡◌, refl}
 use lib.Dec.{eqb}
 use lib.ListN.{get_or}
 use borrow.Author.Tests.{not-false}
-use Rattle.ground.specs.Choice.{if◌then◌else◌}
+use Rattle.std.specs.Prelude.{if◌then◌else◌}
 use Rattle.ground.specs.Rows.{at, same}
 use Rattle.ground.specs.Each.{Each, none, one}
 use Rattle.ground.proofs.Rows.{tab_at, same_eq}

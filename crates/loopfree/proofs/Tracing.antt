@@ -10,7 +10,7 @@ use mathlib.Core.Path.{◌≡◌, refl, ap}
 use lib.Dec.{eqb}
 use lib.ListN.{length, drop}
 use borrow.Author.Tests.{eqb-false}
-use Rattle.ground.specs.Choice.{if◌then◌else◌}
+use Rattle.std.specs.Prelude.{if◌then◌else◌}
 use Rattle.ground.specs.Rows.{at, rising}
 use Rattle.ground.specs.Each.{Each, none, one}
 use Rattle.ground.proofs.Each.{each_append, each_at}

@@ -5,7 +5,7 @@
 -- copy and gives the sender's tree, and without one the copy is that tree; each unit's feasible distance is at most its
 -- own distance and that in each copy of its tree held over a link up at both ends."
 use Rattle.std.specs.Prelude.{ℕ, ◌+◌, Bool, not, ◌&&◌, ◌||◌, List, [], ◌∷◌, eqb, leb, length, get_or, drop}
-use Rattle.ground.specs.Choice.{if◌then◌else◌}
+use Rattle.std.specs.Prelude.{if◌then◌else◌}
 use Rattle.ground.specs.Rows.{at, tab, every, same}
 use Rattle.tree.specs.Recompute.{copy_of, recomputed}
 use Rattle.tree.specs.Tree.{is_tree}

@@ -8,7 +8,7 @@ use borrow.Author.Tests.{eqb-true, leb-true, lt-ltb, le-ltb}
 use lib.Dec.{eqb, ltb, leb}
 use lib.ListN.{length, set, drop, length-set}
 use lib.Seq.{paste, sets-eq, take_all, drop-drop}
-use Rattle.ground.specs.Choice.{if◌then◌else◌}
+use Rattle.std.specs.Prelude.{if◌then◌else◌}
 use Rattle.ground.specs.Limits.{unit_limit, entry_limit, legal_count, message_room}
 use Rattle.ground.specs.Refusal.{accepted, answer_base}
 use Rattle.ground.specs.Said.{accepted_with, refused_with, said}

@@ -1,6 +1,6 @@
 -- Rule: what the reader and the writer answer as one number, and the fields of a message in a lent table.
 use Rattle.std.specs.Prelude.{ℕ, ◌+◌, not, List, ◌∷◌, ◌++◌, eqb, ltb, length, drop}
-use Rattle.ground.specs.Choice.{if◌then◌else◌}
+use Rattle.std.specs.Prelude.{if◌then◌else◌}
 use Rattle.ground.specs.Limits.{entry_limit, legal_count}
 use Rattle.ground.specs.Refusal.{accepted, answer_base, ◌gives◌, ◌otherwise◌}
 use Rattle.ground.specs.Rows.{filled}

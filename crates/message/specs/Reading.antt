@@ -1,7 +1,7 @@
 -- Rule: what the reader answers: "kind, sender and entry count, or refusal; the entries' array beside it".
 -- Order: `is_framed`, `Framed`: which part of the layout is looked at first (proofs/Readings.antt).
 use Rattle.std.specs.Prelude.{ℕ, ◌+◌, ◌*◌, ◌≤◌, Bool, true, ◌&&◌, List, [], ◌∷◌, ◌≡◌, eqb, length}
-use Rattle.ground.specs.Choice.{if◌then◌else◌}
+use Rattle.std.specs.Prelude.{if◌then◌else◌}
 use Rattle.ground.specs.Limits.{entry_limit, unit_limit}
 use Rattle.ground.specs.Refusal.{accepted}
 use Rattle.ground.specs.Rows.{at, zeros, filled}

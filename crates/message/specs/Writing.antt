@@ -2,7 +2,7 @@
 -- Order: `room_refusal`, `contents_of`, `laid_at_start`, `Fitting`: what is looked at first, and how the bytes are stored
 -- (proofs/Writings.antt).
 use Rattle.std.specs.Prelude.{ℕ, ◌≤◌, ◌<◌, not, List, [], ◌∷◌, ◌++◌, map, eqb, length, drop}
-use Rattle.ground.specs.Choice.{if◌then◌else◌}
+use Rattle.std.specs.Prelude.{if◌then◌else◌}
 use Rattle.ground.specs.Limits.{entry_limit, legal_count}
 use Rattle.ground.specs.Refusal.{accepted, ◌gives◌, ◌otherwise◌}
 use Rattle.ground.specs.Said.{Said, accepted_with, refused_with}

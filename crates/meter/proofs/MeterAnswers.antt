@@ -7,7 +7,7 @@ use mathlib.Core.Logic.{◌≢◌}
 use mathlib.Core.Path.{◌≡◌, refl, sym, ap, ◌∙◌}
 use borrow.Author.Tests.{ltb-true, leb-true, eq-eqb, ne_eqb}
 use lib.Dec.{eqb, ltb, leb}
-use Rattle.ground.specs.Choice.{if◌then◌else◌}
+use Rattle.std.specs.Prelude.{if◌then◌else◌}
 use Rattle.ground.specs.Limits.{unit_limit, frame_limit, highest_size, hop_limit, entered_limit}
 use Rattle.ground.specs.Refusal.{answer_base}
 use Rattle.ground.specs.Rows.{at}

@@ -1,7 +1,7 @@
 -- Order: single figures and places read from a meter's table and counted in it, and questions by their names
 -- (proofs/ReadFrames.antt, proofs/MeterAnswers.antt).
 use Rattle.std.specs.Prelude.{ℕ, not, List, eqb, length}
-use Rattle.ground.specs.Choice.{if◌then◌else◌}
+use Rattle.std.specs.Prelude.{if◌then◌else◌}
 use Rattle.frames.specs.Meter.{Frame, no_frame, Meter, frame_at, held_bytes, held_frames}
 use Rattle.frames.specs.Meter.{counts_entered, counts_delivered, counts_dropped}
 use Rattle.frames.specs.MeterTable.{entered_at, delivered_at, dropped_at, meter_words, meter_from}

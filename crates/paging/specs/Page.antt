@@ -1,7 +1,7 @@
 -- Rule: what `page` prints of a meter: the figures, one a line, then each frame that is held, by its place.
 use Rattle.std.specs.Prelude.{ℕ, List, [], ◌∷◌, ◌++◌}
 use Rattle.ground.specs.Bytes.{newline, space}
-use Rattle.ground.specs.Choice.{if◌then◌else◌}
+use Rattle.std.specs.Prelude.{if◌then◌else◌}
 use Rattle.ground.specs.Limits.{frame_limit}
 use Rattle.ground.specs.Rows.{tab, joined}
 use Rattle.frames.specs.Meter.{Frame, is_held, Meter, frame_at, held_bytes, held_frames}

@@ -2,7 +2,7 @@
 -- Order: `units_in`, `highest_answer`, `Traceable`, `EndsAs`, `LaysPath`: how the loop finds it (proofs/Sets.antt,
 -- proofs/TraceAnswers.antt).
 use Rattle.std.specs.Prelude.{ℕ, ◌+◌, ◌*◌, ◌≤◌, ◌<◌, true, List, [], ◌∷◌, ◌≡◌, eqb}
-use Rattle.ground.specs.Choice.{if◌then◌else◌}
+use Rattle.std.specs.Prelude.{if◌then◌else◌}
 use Rattle.ground.specs.Refusal.{accepted, answer_base}
 use Rattle.ground.specs.Rows.{at, rising, is_in}
 use Rattle.ground.specs.Said.{Said, accepted_with, refused_with}

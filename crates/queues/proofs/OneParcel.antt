@@ -10,7 +10,7 @@ use mathlib.Core.Path.{◌≡◌, sym, ap, ap₂, ◌∙◌}
 use borrow.Author.Tests.{leb-true, le-leb, lt-leb, eq-eqb, ne_eqb}
 use lib.Dec.{eqb}
 use lib.ListN.{length}
-use Rattle.ground.specs.Choice.{if◌then◌else◌}
+use Rattle.std.specs.Prelude.{if◌then◌else◌}
 use Rattle.ground.specs.Limits.{queue_room, message_room}
 use Rattle.ground.specs.Rows.{at}
 use Rattle.ground.proofs.Choices.{by_choice}

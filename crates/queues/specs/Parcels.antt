@@ -2,7 +2,7 @@
 -- neighbour's number, then the message. They are taken from the buffer neighbour by neighbour, rising. proofs/SentParcels.antt
 -- shows that they are the messages of `outgoing`.
 use Rattle.std.specs.Prelude.{ℕ, zero, suc, ◌+◌, ◌-◌, Bool, not, ◌&&◌, List, eqb, leb, length}
-use Rattle.ground.specs.Choice.{if◌then◌else◌}
+use Rattle.std.specs.Prelude.{if◌then◌else◌}
 use Rattle.ground.specs.Limits.{queue_room, message_room}
 use Rattle.ground.specs.Rows.{at, every}
 use Rattle.rules.specs.Message.{written_length}

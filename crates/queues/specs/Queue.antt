@@ -3,7 +3,7 @@
 -- `laid_queue`.
 use Rattle.std.specs.Prelude.{ℕ, ◌*◌, Bool, ◌&&◌, List, eqb, ltb, length, drop}
 use Rattle.std.proofs.Math.Seq.{paste}
-use Rattle.ground.specs.Choice.{if◌then◌else◌}
+use Rattle.std.specs.Prelude.{if◌then◌else◌}
 use Rattle.ground.specs.Limits.{unit_limit, queue_room, message_room}
 use Rattle.ground.specs.Rows.{at, zeros, filled, lowest}
 use Rattle.rules.specs.Tables.{part, queue_bytes, network_bytes, queue_at}

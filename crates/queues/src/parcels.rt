@@ -1,7 +1,7 @@
 // The messages of an event, from the buffer where `unit` laid them to the queues: a parcel for each neighbour that is sent
 // one, its number and then the message, neighbours rising.
 ghost use Rattle.std.specs.Prelude.{not, ◌&&◌, ◌≡◌, ◌+◌, ◌-◌, ◌≤◌, eqb, length};
-ghost use Rattle.ground.specs.Choice.{if◌then◌else◌};
+ghost use Rattle.std.specs.Prelude.{if◌then◌else◌};
 ghost use Rattle.ground.specs.Limits.{queue_room};
 ghost use Rattle.rules.specs.Tables.{part};
 ghost use Rattle.queues.specs.Parcels.{parcel_at, has_room, sent_to};

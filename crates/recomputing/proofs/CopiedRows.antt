@@ -9,7 +9,7 @@ use borrow.Author.Tests.{eq-eqb, ne_eqb, eqb-true, lt-ltb, le-leb, lt-leb}
 use lib.Dec.{eqb, ltb, leb}
 use lib.ListN.{length, take, drop}
 use lib.Seq.{get_or-take, take-take}
-use Rattle.ground.specs.Choice.{if◌then◌else◌}
+use Rattle.std.specs.Prelude.{if◌then◌else◌}
 use Rattle.ground.specs.Limits.{unit_limit, far}
 use Rattle.ground.specs.Rows.{at, tab, zeros, filled, filled_rows}
 use Rattle.tree.specs.Recompute.{copy_of, through_neighbours, copied_link, taken_links}

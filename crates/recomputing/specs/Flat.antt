@@ -2,7 +2,7 @@
 -- it reads like the rules' copies.
 use Rattle.std.specs.Prelude.{ℕ, ◌*◌, Bool, ◌&&◌, List, [], eqb, ltb, leb, length, take, drop}
 use Rattle.std.proofs.Math.Seq.{paste}
-use Rattle.ground.specs.Choice.{if◌then◌else◌}
+use Rattle.std.specs.Prelude.{if◌then◌else◌}
 use Rattle.ground.specs.Limits.{unit_limit}
 use Rattle.ground.specs.Rows.{tab, zeros, filled, counted}
 use Rattle.tree.specs.Recompute.{through_neighbours}

@@ -1,7 +1,7 @@
 -- Order: the links that the recomputation takes from any numbers: of those that the rules take, such as have a link's cost.
 -- From the tables of a fit unit all have: `recomputed-from` of proofs/Recomputing.antt.
 use Rattle.std.specs.Prelude.{ℕ, ◌≤◌, ◌<◌, true, ◌&&◌, List, [], ◌≢◌, ◌≡◌, eqb, ltb}
-use Rattle.ground.specs.Choice.{if◌then◌else◌}
+use Rattle.std.specs.Prelude.{if◌then◌else◌}
 use Rattle.ground.specs.Limits.{highest_cost, legal_cost, far}
 use Rattle.ground.specs.Rows.{at, tab}
 use Rattle.tree.specs.Recompute.{copy_of, preferred, taken_links, shortest_tree}

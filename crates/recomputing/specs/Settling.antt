@@ -1,7 +1,7 @@
 -- Order: the steps of the quick engine: where it starts, which unit it settles next, and what that unit's offers come to.
 -- proofs/Settled.antt shows that it ends with the three facts of shortest distances.
 use Rattle.std.specs.Prelude.{ℕ, min, ◌≤◌, ◌<◌, Bool, true, false, List, ◌≡◌, eqb, get_or}
-use Rattle.ground.specs.Choice.{if◌then◌else◌}
+use Rattle.std.specs.Prelude.{if◌then◌else◌}
 use Rattle.ground.specs.Limits.{far}
 use Rattle.ground.specs.Rows.{at, tab}
 use Rattle.tree.specs.Tree.{plus}

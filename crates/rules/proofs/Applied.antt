@@ -10,7 +10,7 @@ use mathlib.Core.Path.{◌≡◌, refl, sym, ap, ◌∙◌}
 use lib.Dec.{eqb}
 use lib.ListN.{length, set, take, length-set, length-replicate}
 use lib.Seq.{take-suc, get_or-set_same, get_or-set_other}
-use Rattle.ground.specs.Choice.{if◌then◌else◌}
+use Rattle.std.specs.Prelude.{if◌then◌else◌}
 use Rattle.ground.specs.Rows.{at, zeros, filled}
 use Rattle.tree.specs.Recompute.{copy_of}
 use Rattle.ground.proofs.Places.{at_filled}

@@ -12,7 +12,7 @@ use lib.Dec.{eqb}
 use lib.ListN.{length, length-append, get_or-append}
 use lib.Seq.{get_or_at}
 use Rattle.ground.specs.Limits.{unit_limit, change_base}
-use Rattle.ground.specs.Choice.{if◌then◌else◌}
+use Rattle.std.specs.Prelude.{if◌then◌else◌}
 use Rattle.ground.specs.Rows.{at}
 use Rattle.tree.specs.Tree.{nothing, is_tree}
 use Rattle.ground.proofs.Joined.{joined_skip}

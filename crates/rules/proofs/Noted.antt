@@ -8,7 +8,7 @@ use mathlib.Core.Logic.{◌≢◌, ⊎_elim}
 use mathlib.Core.Path.{◌≡◌, refl, sym, ap, ap₂, ◌∙◌}
 use lib.ListN.{set}
 use lib.Seq.{get_or-set_same, get_or-set_other, set-get_or}
-use Rattle.ground.specs.Choice.{if◌then◌else◌}
+use Rattle.std.specs.Prelude.{if◌then◌else◌}
 use Rattle.ground.specs.Limits.{highest_cost}
 use Rattle.ground.specs.Rows.{at, zeros}
 use Rattle.tree.specs.Recompute.{copy_of}

@@ -1,6 +1,6 @@
 -- Rule: one event at one unit, steps A to F.
 use Rattle.std.specs.Prelude.{ℕ, ◌+◌, min, Bool, not, ◌&&◌, ◌||◌, List, [], ◌∷◌, eqb, length, set}
-use Rattle.ground.specs.Choice.{if◌then◌else◌}
+use Rattle.std.specs.Prelude.{if◌then◌else◌}
 use Rattle.ground.specs.Refusal.{◌gives◌, ◌otherwise◌}
 use Rattle.ground.specs.Rows.{at, tab, zeros, some, same}
 use Rattle.tree.specs.Recompute.{copy_of, recomputed}

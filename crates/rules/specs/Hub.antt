@@ -1,6 +1,6 @@
 -- Rule: one unit as hub firmware uses it: calls with numbers and bytes, and the messages of an event in a lent buffer.
 use Rattle.std.specs.Prelude.{ℕ, ◌+◌, Bool, not, ◌&&◌, List, [], ◌∷◌, ◌++◌, eqb, ltb, length, get_or, drop}
-use Rattle.ground.specs.Choice.{if◌then◌else◌}
+use Rattle.std.specs.Prelude.{if◌then◌else◌}
 use Rattle.ground.specs.Limits.{legal_count, legal_cost, firmware_room, far}
 use Rattle.ground.specs.Refusal.{accepted, ◌gives◌, ◌otherwise◌, answer_base}
 use Rattle.ground.specs.Rows.{at, tab, joined}

@@ -1,6 +1,6 @@
 -- Rule: messages between neighbours: differences of trees, and the bytes that carry them.
 use Rattle.std.specs.Prelude.{ℕ, zero, suc, ◌+◌, ◌-◌, ◌*◌, ◌/◌, ◌%◌, Bool, not, ◌&&◌, ◌||◌, List, [], ◌∷◌, ◌++◌, map, eqb, ltb, leb, length, set, take, drop}
-use Rattle.ground.specs.Choice.{if◌then◌else◌}
+use Rattle.std.specs.Prelude.{if◌then◌else◌}
 use Rattle.ground.specs.Limits.{legal_cost, legal_count, entry_base, change_base}
 use Rattle.ground.specs.Refusal.{◌gives◌, ◌otherwise◌}
 use Rattle.ground.specs.Rows.{at, tab, every}

@@ -1,7 +1,7 @@
 -- Rule: the network of units with its queues: link up, cost, link down and delivery.
 use Rattle.std.specs.Prelude.{ℕ, Bool, not, ◌&&◌, ◌||◌, List, [], ◌++◌, eqb, ltb, leb, length, get_or, set, drop}
 use Rattle.std.specs.Bool.{beq}
-use Rattle.ground.specs.Choice.{if◌then◌else◌}
+use Rattle.std.specs.Prelude.{if◌then◌else◌}
 use Rattle.ground.specs.Limits.{legal_count, legal_cost, queue_room}
 use Rattle.ground.specs.Refusal.{accepted, ◌gives◌, ◌otherwise◌}
 use Rattle.ground.specs.Rows.{tab, every, some}

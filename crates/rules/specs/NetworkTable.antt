@@ -1,7 +1,7 @@
 -- Rule: the network's calls and questions over its tables: numbers for the units, bytes for the queues. A refusal, below 100,
 -- changes nothing; an accepted call answers 100, a question 100 plus the value, and the largest number for unreachable.
 use Rattle.std.specs.Prelude.{ℕ, not, ◌&&◌, List, eqb, ltb, length}
-use Rattle.ground.specs.Choice.{if◌then◌else◌}
+use Rattle.std.specs.Prelude.{if◌then◌else◌}
 use Rattle.ground.specs.Refusal.{accepted, ◌gives◌, ◌otherwise◌}
 use Rattle.ground.specs.Rows.{at}
 use Rattle.rules.specs.Hub.{hub_answer, reachable}

@@ -1,6 +1,6 @@
 -- Rule: the tracer: following successors from a start to a destination, each chosen by a byte.
 use Rattle.std.specs.Prelude.{ℕ, zero, suc, ◌-◌, ◌%◌, not, ◌||◌, List, [], ◌∷◌, ◌++◌, eqb, ltb, length, drop}
-use Rattle.ground.specs.Choice.{if◌then◌else◌}
+use Rattle.std.specs.Prelude.{if◌then◌else◌}
 use Rattle.ground.specs.Refusal.{◌gives◌, ◌otherwise◌}
 use Rattle.ground.specs.Rows.{at}
 use Rattle.rules.specs.Network.{Network, successors_in}

@@ -1,6 +1,6 @@
 -- Rule: a unit's tables, and what can be asked of them. Rows have a place for each unit below the count.
 use Rattle.std.specs.Prelude.{ℕ, Bool, not, ◌&&◌, ◌||◌, List, eqb, ltb, leb}
-use Rattle.ground.specs.Choice.{if◌then◌else◌}
+use Rattle.std.specs.Prelude.{if◌then◌else◌}
 use Rattle.ground.specs.Limits.{far, longest, legal_count, legal_cost}
 use Rattle.ground.specs.Rows.{at, tab, zeros, every, some, bits, rising, same}
 use Rattle.tree.specs.Recompute.{copy_of}

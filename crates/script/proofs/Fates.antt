@@ -9,7 +9,7 @@ use borrow.Author.Tests.{eq-eqb, ne_eqb, eqb-false, lt-ltb, le-ltb}
 use lib.Dec.{eqb, ltb}
 use Rattle.ground.specs.Limits.{frame_limit, legal_size, hop_limit, entered_limit}
 use Rattle.ground.specs.Refusal.{accepted, answer_base}
-use Rattle.ground.specs.Choice.{if◌then◌else◌}
+use Rattle.std.specs.Prelude.{if◌then◌else◌}
 use Rattle.ground.proofs.Choices.{by_choice}
 use Rattle.ground.proofs.Refusal.{gives_below, otherwise_below}
 use Rattle.ground.proofs.Tests.{equal_or_not}

@@ -1,6 +1,6 @@
 -- Order: a command's call and its answer, and the line that the answer prints. proofs/Verdicts.antt shows that it is `printed`.
 use Rattle.std.specs.Prelude.{ℕ, ◌-◌, ◌*◌, List, eqb, ltb, leb}
-use Rattle.ground.specs.Choice.{if◌then◌else◌}
+use Rattle.std.specs.Prelude.{if◌then◌else◌}
 use Rattle.ground.specs.Refusal.{accepted, answer_base}
 use Rattle.rules.specs.Hub.{hub_answer}
 use Rattle.rules.specs.Network.{up, cost, down, deliver}

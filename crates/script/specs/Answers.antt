@@ -2,7 +2,7 @@
 -- slice of no numbers, and then there are no commands of a meter.
 -- Order: `answer_room`: the room that every answer finds enough (proofs/Room.antt).
 use Rattle.std.specs.Prelude.{ℕ, ◌*◌, Bool, not, List, eqb, length}
-use Rattle.ground.specs.Choice.{if◌then◌else◌}
+use Rattle.std.specs.Prelude.{if◌then◌else◌}
 use Rattle.ground.specs.Limits.{unit_limit}
 use Rattle.ground.specs.Refusal.{accepted}
 use Rattle.rules.specs.Network.{up, cost, down, deliver}

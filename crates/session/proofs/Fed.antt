@@ -9,7 +9,7 @@ use borrow.Author.Tests.{leb-true}
 use lib.Dec.{eqb}
 use lib.ListN.{length, take, length-append}
 use Rattle.ground.specs.Bytes.{newline}
-use Rattle.ground.specs.Choice.{if◌then◌else◌}
+use Rattle.std.specs.Prelude.{if◌then◌else◌}
 use Rattle.ground.proofs.Choices.{by_choice}
 use Rattle.ground.proofs.Lists.{parts}
 use Rattle.ground.proofs.Tests.{not_both}

@@ -12,7 +12,7 @@ use lib.Dec.{eqb, leb}
 use lib.ListN.{length, take, drop}
 use lib.Seq.{length-sets, drop-cons, drop-drop}
 use Rattle.ground.specs.Bytes.{newline}
-use Rattle.ground.specs.Choice.{if◌then◌else◌}
+use Rattle.std.specs.Prelude.{if◌then◌else◌}
 use Rattle.ground.specs.Rows.{at}
 use Rattle.ground.proofs.Choices.{by_choice}
 use Rattle.ground.proofs.Lists.{parts}

@@ -2,7 +2,7 @@
 -- (proofs/WholeInput.antt shows that it is `output_of`, proofs/Cutting.antt that the cutting makes no difference).
 use Rattle.std.specs.Prelude.{ℕ, List, [], ◌∷◌, ◌++◌, eqb, length}
 use Rattle.ground.specs.Bytes.{newline}
-use Rattle.ground.specs.Choice.{if◌then◌else◌}
+use Rattle.std.specs.Prelude.{if◌then◌else◌}
 use Rattle.script.specs.Answers.{words_then, bytes_then, meter_then, command_with, answer_text}
 use Rattle.session.specs.Input.{start_words, start_bytes}
 

@@ -2,7 +2,7 @@
 -- prints in the program that has a meter.
 use Rattle.std.specs.Prelude.{ℕ, List, [], ◌∷◌, ◌++◌, eqb}
 use Rattle.ground.specs.Bytes.{newline}
-use Rattle.ground.specs.Choice.{if◌then◌else◌}
+use Rattle.std.specs.Prelude.{if◌then◌else◌}
 use Rattle.ground.specs.Rows.{zeros}
 use Rattle.rules.specs.Tables.{network_words, network_bytes}
 use Rattle.frames.specs.MeterTable.{meter_words}

@@ -1,7 +1,7 @@
 -- Order: what is lent to a call of the session, and what bytes of the input make of it (proofs/Fed.antt).
 use Rattle.std.specs.Prelude.{ℕ, suc, ◌+◌, Bool, ◌&&◌, List, [], ◌∷◌, eqb, leb, length, take, drop}
 use Rattle.ground.specs.Bytes.{newline}
-use Rattle.ground.specs.Choice.{if◌then◌else◌}
+use Rattle.std.specs.Prelude.{if◌then◌else◌}
 use Rattle.slices.specs.Putting.{used_after, put_after}
 use Rattle.script.specs.Answers.{words_then, bytes_then, meter_then, command_with, answer_text, answer_room}
 use Rattle.session.specs.Feeding.{end_of}

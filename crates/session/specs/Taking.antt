@@ -1,7 +1,7 @@
 -- Order: the bytes of a chunk up to a newline, taken into the room of a line (proofs/Taking.antt).
 use Rattle.std.specs.Prelude.{ℕ, suc, Bool, true, false, List, [], ◌∷◌, eqb}
 use Rattle.ground.specs.Bytes.{newline}
-use Rattle.ground.specs.Choice.{if◌then◌else◌}
+use Rattle.std.specs.Prelude.{if◌then◌else◌}
 use Rattle.slices.specs.Putting.{used_after, put_after}
 
 -- The room of the line, the bytes held of it, the place that is next, and whether the line is whole.

@@ -1,7 +1,7 @@
 -- Words: numbers laid over others, and numbers that are all 0.
 use Rattle.std.specs.Prelude.{ℕ, ◌+◌, Bool, List, leb, length}
 use Rattle.std.proofs.Math.Seq.{paste}
-use Rattle.ground.specs.Choice.{if◌then◌else◌}
+use Rattle.std.specs.Prelude.{if◌then◌else◌}
 use Rattle.ground.specs.Rows.{zeros, same}
 
 -- Numbers laid over others from a place on. Where they do not fit there nothing changes.

@@ -9,7 +9,7 @@ use borrow.Author.Tests.{eq-eqb, ne_eqb, le-leb, leb-true, lt-leb, lt-ltb}
 use lib.Dec.{eqb, leb}
 use lib.ListN.{length, take}
 use lib.Seq.{get_or-take}
-use Rattle.ground.specs.Choice.{if◌then◌else◌}
+use Rattle.std.specs.Prelude.{if◌then◌else◌}
 use Rattle.ground.specs.Limits.{unit_limit, highest_cost, far, longest}
 use Rattle.ground.specs.Rows.{at, zeros, every, same}
 use Rattle.tree.specs.Recompute.{copy_of}

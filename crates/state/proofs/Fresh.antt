@@ -5,7 +5,7 @@ use mathlib.Core.List.{List, [], map}
 use mathlib.Core.Path.{◌≡◌, sym, ap, ◌∙◌}
 use lib.Dec.{eqb}
 use lib.ListN.{length, length-replicate}
-use Rattle.ground.specs.Choice.{if◌then◌else◌}
+use Rattle.std.specs.Prelude.{if◌then◌else◌}
 use Rattle.ground.specs.Limits.{unit_limit, far}
 use Rattle.ground.specs.Rows.{tab, zeros, filled, joined}
 use Rattle.rules.specs.Tables.{laid_row, laid_unit}

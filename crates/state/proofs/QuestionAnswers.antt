@@ -10,7 +10,7 @@ use borrow.Author.Tests.{eq-eqb, ne_eqb, eqb-true, ltb-true, not-false}
 use lib.Dec.{eqb, ltb}
 use lib.ListN.{length, take, drop, length-append, length-replicate, get_or-append}
 use lib.Seq.{drop_at}
-use Rattle.ground.specs.Choice.{if◌then◌else◌}
+use Rattle.std.specs.Prelude.{if◌then◌else◌}
 use Rattle.ground.specs.Limits.{unit_limit, far, longest}
 use Rattle.ground.specs.Refusal.{accepted, ◌gives◌}
 use Rattle.ground.specs.Rows.{at, tab, filled}

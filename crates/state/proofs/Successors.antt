@@ -6,7 +6,7 @@ use mathlib.Core.Path.{◌≡◌, ap, ap₂, ◌∙◌}
 use borrow.Author.Tests.{eq-eqb, ne_eqb, le-ltb}
 use lib.Dec.{eqb, ltb}
 use lib.ListN.{get_or}
-use Rattle.ground.specs.Choice.{if◌then◌else◌}
+use Rattle.std.specs.Prelude.{if◌then◌else◌}
 use Rattle.ground.specs.Limits.{unit_limit, far}
 use Rattle.ground.specs.Rows.{at, tab, filled, filled_rows}
 use Rattle.tree.specs.Recompute.{copy_of, through_neighbours}

@@ -2,7 +2,7 @@
 -- All at once are its state, and for each destination the distance, the feasible distance and the successor set; or a refusal,
 -- and zeros. `listed_answer` is read from a row of the table (proofs/ListedAnswers.antt).
 use Rattle.std.specs.Prelude.{ℕ, ◌+◌, false, List, ◌⊎◌, ◌≡◌}
-use Rattle.ground.specs.Choice.{if◌then◌else◌}
+use Rattle.std.specs.Prelude.{if◌then◌else◌}
 use Rattle.ground.specs.Limits.{unit_limit}
 use Rattle.ground.specs.Refusal.{accepted}
 use Rattle.ground.specs.Rows.{at, tab, zeros}

@@ -1,7 +1,7 @@
 -- Order: a unit as the code holds it, in arrays of fixed length with zeros from the count on, and the unit that such arrays
 -- hold. proofs/Holding.antt leads from `unit_from` and to `laid_unit`, proofs/Tables.antt so for any numbers.
 use Rattle.std.specs.Prelude.{ℕ, ◌+◌, ◌/◌, ◌%◌, ◌&&◌, List, ◌∷◌, ◌++◌, map, eqb, ltb, leb, length, take}
-use Rattle.ground.specs.Choice.{if◌then◌else◌}
+use Rattle.std.specs.Prelude.{if◌then◌else◌}
 use Rattle.ground.specs.Limits.{unit_limit}
 use Rattle.ground.specs.Rows.{at, tab, zeros, filled, joined}
 use Rattle.rules.specs.Tables.{unit_words, laid_row, unit_from, copy_at}

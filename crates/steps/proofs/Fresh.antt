@@ -9,7 +9,7 @@ use mathlib.Core.Path.{◌≡◌, refl, ap, ◌∙◌}
 use borrow.Author.Tests.{eq-eqb, ne_eqb}
 use lib.Dec.{eqb}
 use lib.ListN.{length, get_or, length-replicate}
-use Rattle.ground.specs.Choice.{if◌then◌else◌}
+use Rattle.std.specs.Prelude.{if◌then◌else◌}
 use Rattle.ground.specs.Limits.{unit_limit, far}
 use Rattle.ground.specs.Rows.{tab, zeros}
 use Rattle.ground.proofs.Lists.{at_zeros}

@@ -9,7 +9,7 @@ use mathlib.Core.Path.{◌≡◌, refl, subst₂, ◌∙◌}
 use borrow.Author.Tests.{eq-eqb, ne_eqb}
 use lib.Dec.{eqb}
 use lib.ListN.{length, get_or}
-use Rattle.ground.specs.Choice.{if◌then◌else◌}
+use Rattle.std.specs.Prelude.{if◌then◌else◌}
 use Rattle.ground.specs.Rows.{zeros}
 use Rattle.tree.specs.Tree.{is_tree}
 use Rattle.rules.specs.Event.{Event, link_down, Reaction, noted, new_of, owed_of, new_tree, is_sent_update, differences_for, message_to}

@@ -6,7 +6,7 @@ use mathlib.Core.List.{List, [], ◌∷◌, ◌++◌}
 use lib.Dec.{eqb}
 use lib.ListN.{length, length-append}
 use Rattle.ground.specs.Bytes.{newline, space, comma, hyphen}
-use Rattle.ground.specs.Choice.{if◌then◌else◌}
+use Rattle.std.specs.Prelude.{if◌then◌else◌}
 use Rattle.ground.specs.Limits.{far, unit_limit}
 use Rattle.ground.proofs.Choices.{by_choice}
 use Rattle.texts.specs.Printed.{refused_line, held_line, figure_line, line_room}

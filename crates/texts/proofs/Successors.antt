@@ -10,7 +10,7 @@ use borrow.Author.Tests.{eqb-true, ne_eqb, not-true, not-false}
 use lib.Dec.{eqb}
 use lib.ListN.{length, length-append}
 use Rattle.ground.specs.Bytes.{comma, hyphen}
-use Rattle.ground.specs.Choice.{if◌then◌else◌}
+use Rattle.std.specs.Prelude.{if◌then◌else◌}
 use Rattle.texts.specs.Printed.{joined_to, successors_text, is_some, member_text}
 use Rattle.texts.specs.Texts.{decimal_room, decimal_of}
 use Rattle.texts.proofs.Digits.{digits_count}

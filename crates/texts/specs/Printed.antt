@@ -2,7 +2,7 @@
 -- Order: `line_room`, `is_some`, `member_text`: room, and successors put one by one (proofs/Lengths.antt, proofs/Successors.antt).
 use Rattle.std.specs.Prelude.{ℕ, zero, suc, Bool, not, List, [], ◌∷◌, ◌++◌, eqb, length}
 use Rattle.ground.specs.Bytes.{newline, space, comma, hyphen}
-use Rattle.ground.specs.Choice.{if◌then◌else◌}
+use Rattle.std.specs.Prelude.{if◌then◌else◌}
 use Rattle.ground.specs.Limits.{far}
 use Rattle.texts.specs.Texts.{decimal_of, long_decimal_of}
 use Rattle.texts.specs.Texts.{ok_word, refused_word, bad_line_words, unit_word, active_word, passive_word}

@@ -1,7 +1,7 @@
 -- Rule: texts are lists of bytes: decimals, and the words that are printed.
 use Rattle.std.specs.Prelude.{ℕ, zero, suc, ◌+◌, ◌-◌, ◌/◌, ◌%◌, List, [], ◌∷◌, ◌++◌, ltb}
 use Rattle.ground.specs.Bytes.{space, digit_zero}
-use Rattle.ground.specs.Choice.{if◌then◌else◌}
+use Rattle.std.specs.Prelude.{if◌then◌else◌}
 
 -- A number's decimal, of at most `places` + 1 digits; a number of 32 bits has at most 10.
 unfoldable pub digits_of : (places number : ℕ) → List ℕ

@@ -1,7 +1,7 @@
 // The lines of a unit's row: one with its state, and one for each other destination with the unit's ways to it.
 ghost use Rattle.std.specs.Prelude.{◌||◌, [], ◌∷◌, ◌++◌, ◌≡◌};
 ghost use Rattle.ground.specs.Bytes.{space, comma};
-ghost use Rattle.ground.specs.Choice.{if◌then◌else◌};
+ghost use Rattle.std.specs.Prelude.{if◌then◌else◌};
 ghost use Rattle.ground.specs.Rows.{is_in};
 ghost use Rattle.texts.specs.Printed.{distance_text, joined_to, successors_text, state_text, state_line, pair_line, is_some, member_text};
 ghost use Rattle.slices.specs.Putting.{used_after, put_after};

@@ -9,7 +9,7 @@ use borrow.Author.Tests.{eq-eqb, ne_eqb}
 use lib.Dec.{eqb}
 use lib.ListN.{length-replicate}
 use lib.Seq.{ext_get_or}
-use Rattle.ground.specs.Choice.{if◌then◌else◌}
+use Rattle.std.specs.Prelude.{if◌then◌else◌}
 use Rattle.ground.specs.Limits.{far}
 use Rattle.ground.specs.Rows.{at, zeros}
 use Rattle.ground.proofs.Lists.{at_zeros}

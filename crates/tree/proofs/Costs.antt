@@ -3,7 +3,7 @@ use Prim.Native.Nat.{ℕ, ◌<◌}
 use mathlib.Core.List.{List}
 use mathlib.Core.Path.{◌≡◌, ap, ap₂, ◌∙◌}
 use lib.Dec.{eqb, ltb}
-use Rattle.ground.specs.Choice.{if◌then◌else◌}
+use Rattle.std.specs.Prelude.{if◌then◌else◌}
 use Rattle.ground.specs.Limits.{far}
 use Rattle.ground.specs.Rows.{at, tab}
 use Rattle.ground.proofs.Rows.{tab_ext, least_ext, lowest_ext}

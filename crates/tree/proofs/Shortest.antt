@@ -9,7 +9,7 @@ use mathlib.Core.Logic.{◌≢◌, ⊎_elim}
 use mathlib.Core.Path.{◌≡◌, refl, ap, ◌∙◌}
 use lib.Dec.{eqb}
 use borrow.Author.Tests.{eq-eqb, ne_eqb}
-use Rattle.ground.specs.Choice.{if◌then◌else◌}
+use Rattle.std.specs.Prelude.{if◌then◌else◌}
 use Rattle.ground.specs.Limits.{far}
 use Rattle.ground.specs.Rows.{at, least}
 use Rattle.ground.proofs.Pigeonhole.{Many, many_one, many_more, many_most}

@@ -9,7 +9,7 @@ use mathlib.Core.Path.{◌≡◌, refl, ◌∙◌}
 use lib.Dec.{eqb}
 use lib.ListN.{length}
 use borrow.Author.Tests.{eqb-true, eq-eqb, ne_eqb}
-use Rattle.ground.specs.Choice.{if◌then◌else◌}
+use Rattle.std.specs.Prelude.{if◌then◌else◌}
 use Rattle.ground.specs.Limits.{far, highest_cost}
 use Rattle.ground.specs.Rows.{at, lowest}
 use Rattle.ground.proofs.Rows.{tab_at, length_tab, lowest_holds, lowest_some}

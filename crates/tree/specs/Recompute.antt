@@ -1,7 +1,7 @@
 -- Rule: recomputing a unit's tree from its link costs and the copies of its neighbours' trees. `costs` holds 0 where the link
 -- is down. Unit `me` is the one that recomputes.
 use Rattle.std.specs.Prelude.{ℕ, not, ◌||◌, List, [], eqb, ltb, get_or}
-use Rattle.ground.specs.Choice.{if◌then◌else◌}
+use Rattle.std.specs.Prelude.{if◌then◌else◌}
 use Rattle.ground.specs.Limits.{far}
 use Rattle.ground.specs.Rows.{at, tab, least, lowest}
 use Rattle.tree.specs.Tree.{nothing, entry, head_of, cost_of, plus, distance}

@@ -2,7 +2,7 @@
 -- is no link. They are the least over all walks of at most the count less one links, found by allowing one more link at
 -- a time; proofs/Shortest.antt shows that they are the only solution of the three facts that the word stands for.
 use Rattle.std.specs.Prelude.{ℕ, zero, suc, ◌-◌, min, List, [], eqb, get_or}
-use Rattle.ground.specs.Choice.{if◌then◌else◌}
+use Rattle.std.specs.Prelude.{if◌then◌else◌}
 use Rattle.ground.specs.Limits.{far}
 use Rattle.ground.specs.Rows.{at, tab, least}
 use Rattle.tree.specs.Tree.{plus}

@@ -2,7 +2,7 @@
 -- A tree is a row, a number for each unit: head × 65,536 + cost, or 0 for nothing. A cost is at least 1, so nothing has
 -- no second form, and two entries are equal exactly when their numbers are.
 use Rattle.std.specs.Prelude.{ℕ, zero, suc, ◌+◌, ◌-◌, ◌*◌, ◌/◌, ◌%◌, min, Bool, not, ◌&&◌, ◌||◌, List, eqb, ltb, leb, length}
-use Rattle.ground.specs.Choice.{if◌then◌else◌}
+use Rattle.std.specs.Prelude.{if◌then◌else◌}
 use Rattle.ground.specs.Limits.{far, entry_base}
 use Rattle.ground.specs.Rows.{at, every}
 

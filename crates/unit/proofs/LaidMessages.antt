@@ -12,7 +12,7 @@ use borrow.Author.Tests.{eq-eqb, ne_eqb, le-ltb}
 use lib.Dec.{eqb}
 use lib.ListN.{length, set, take, drop, length-append, length-set, take-append-drop}
 use lib.Seq.{take-suc-set, drop-set-lt, append_snoc, take-append_seam, drop-append-add, drop-drop}
-use Rattle.ground.specs.Choice.{if◌then◌else◌}
+use Rattle.std.specs.Prelude.{if◌then◌else◌}
 use Rattle.ground.specs.Limits.{unit_limit, entry_limit, message_room}
 use Rattle.ground.specs.Refusal.{accepted}
 use Rattle.ground.specs.Rows.{at, tab, zeros, filled, joined, laid_after}

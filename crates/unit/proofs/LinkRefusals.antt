@@ -8,7 +8,7 @@ use borrow.Author.Tests.{eqb-false, ltb-true, ltb-false, not-true, not-false, lt
 use lib.Dec.{eqb, ltb}
 use lib.ListN.{drop}
 use lib.Seq.{get_or-take, get_or-drop}
-use Rattle.ground.specs.Choice.{if◌then◌else◌}
+use Rattle.std.specs.Prelude.{if◌then◌else◌}
 use Rattle.ground.specs.Limits.{firmware_room, legal_cost}
 use Rattle.ground.specs.Refusal.{accepted, ◌gives◌, ◌otherwise◌}
 use Rattle.ground.specs.Rows.{at}

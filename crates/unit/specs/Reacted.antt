@@ -1,6 +1,6 @@
 -- Order: what the code's reaction leaves, piece by piece. proofs/Composed.antt shows that together it is `reaction_by`.
 use Rattle.std.specs.Prelude.{ℕ, min, Bool, true, not, ◌&&◌, ◌||◌, List, ◌≡◌, eqb, length}
-use Rattle.ground.specs.Choice.{if◌then◌else◌}
+use Rattle.std.specs.Prelude.{if◌then◌else◌}
 use Rattle.ground.specs.Limits.{unit_limit}
 use Rattle.ground.specs.Rows.{at, tab, filled_rows}
 use Rattle.tree.specs.Recompute.{through_neighbours}

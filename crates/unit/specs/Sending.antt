@@ -1,7 +1,7 @@
 -- Order: the messages of an event as bytes in the lent buffer, one by one. proofs/AllMessages.antt and
 -- proofs/Composed.antt show that they are `outgoing`.
 use Rattle.std.specs.Prelude.{ℕ, ◌+◌, ◌≤◌, ◌<◌, Bool, true, List, [], ◌∷◌, ◌≢◌, ◌≡◌, eqb, length, take}
-use Rattle.ground.specs.Choice.{if◌then◌else◌}
+use Rattle.std.specs.Prelude.{if◌then◌else◌}
 use Rattle.ground.specs.Limits.{unit_limit, message_room, firmware_room, change_base}
 use Rattle.ground.specs.Rows.{at, tab, filled, joined}
 use Rattle.tree.specs.Tree.{is_tree}

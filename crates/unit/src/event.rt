@@ -1,6 +1,6 @@
 // Steps B to F of one event, on the arrays of a unit whose tables step A has changed.
 ghost use Rattle.std.specs.Prelude.{◌≡◌, not, ◌&&◌, min, ◌≤◌, length, take};
-ghost use Rattle.ground.specs.Choice.{if◌then◌else◌};
+ghost use Rattle.std.specs.Prelude.{if◌then◌else◌};
 ghost use Rattle.ground.specs.Limits.{unit_limit, firmware_room};
 ghost use Rattle.ground.specs.Rows.{same, filled};
 ghost use Rattle.rules.specs.Event.{changed as isChangedTree, is_alone};

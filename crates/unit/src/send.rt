@@ -1,7 +1,7 @@
 // The messages of an event, laid into the lent buffer one after the other.
 ghost use Rattle.std.specs.Prelude.{not, ◌&&◌, ◌||◌, [], ◌≡◌, ◌+◌, ◌≤◌, ◌<◌, eqb, length, take};
 ghost use Rattle.ground.specs.Rows.{laid_after};
-ghost use Rattle.ground.specs.Choice.{if◌then◌else◌};
+ghost use Rattle.std.specs.Prelude.{if◌then◌else◌};
 ghost use Rattle.ground.specs.Limits.{unit_limit, change_base};
 ghost use Rattle.rules.specs.Message.{change as changeTo, body_for, differences as differencesOf};
 ghost use Rattle.state.specs.Holding.{unit_of};

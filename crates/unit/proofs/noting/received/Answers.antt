@@ -6,7 +6,7 @@ use mathlib.Core.Logic.{◌⊎◌, ◌≢◌, inl, inr, ⊎_elim}
 use mathlib.Core.Path.{◌≡◌, sym, ap, ◌∙◌}
 use borrow.Author.Tests.{eq-eqb, ne_eqb, le-leb, lt-leb}
 use lib.ListN.{length, set}
-use Rattle.ground.specs.Choice.{if◌then◌else◌}
+use Rattle.std.specs.Prelude.{if◌then◌else◌}
 use Rattle.ground.specs.Limits.{unit_limit}
 use Rattle.ground.specs.Rows.{filled, joined}
 use Rattle.tree.specs.Recompute.{copy_of}

@@ -12,22 +12,22 @@ GOOD = {
     'crates/low/src/lib.rt': '// Definitions only.\n',
     'crates/high/src/lib.rt': '''pub mod calls;
 
-#[no_mangle]
+#[unsafe(no_mangle)]
 pub extern "C" fn outside(table: &[u8]) -> u32
-    ensures { λ r. ⌜ r ≡ 1 ⌝ }
+    ensures { result ≡ 1 }
 {
     1
 }
 ''',
     'crates/high/src/calls.rt': '''fn own(x: u32) -> u32
-    requires { ⌜ x ≤ 1 ⌝ }
+    requires { x ≤ 1 }
 {
     x
 }
 
 pub(crate) fn near(x: u32) -> u32
-    requires { ⌜ x ≤ 1 ⌝ }
-    ensures { λ r. ⌜ r ≡ x ⌝ }
+    requires { x ≤ 1 }
+    ensures { result ≡ x }
 {
     x
 }
@@ -35,31 +35,32 @@ pub(crate) fn near(x: u32) -> u32
 pub fn up(
     table: &mut [u32],
 ) -> u32
-    ensures answer { λ r. ⌜ r ≡ 1 ⌝ }
-    ensures table { λ r. ⌜ now (table .exit) ≡ [] ⌝ }
+    ensures answer { result ≡ 1 }
+    ensures table { table.new ≡ [] }
 {
     1
 }
 
 pub fn down() -> u32
-    ensures { λ r. ⌜ r ≡ 1 ⌝ }
+    ensures { result ≡ 1 }
 {
     1
 }
 ''',
     'crates/high/proofs/Lib.antt': '-- Laws.\npub mod OneOutput\n',
-    'crates/high/proofs/OneOutput.antt': '''use Rattle·ground.specs.Unique.{OneOutput}
-use Rattle·high·proofs.proofs.calls
-use Rattle·high·proofs.proofs.outside
+    'crates/high/proofs/OneOutput.antt': '''use Rattle.ground.specs.Unique.{OneOutput}
+use Rattle.high.specs.contracts as said
+use Rattle.high.proofs.calls
+use Rattle.high.proofs.outside
 
-pub outside-once : OneOutput outside.ended outside.Reads.Learnt
-outside-once _ _ _ _ p q i = (agree p q i, _)
+pub outside_once : OneOutput said.outside.ended outside.Reads.Learnt
+outside_once _ _ _ _ p q i = (agree p q i, _)
 
-pub calls-up-once : OneOutput calls.up.ended calls.up.Reads.Learnt
-calls-up-once _ _ _ _ p q i = (agree (p .0) (q .0) i, (agree (p .1) (q .1) i, _))
+pub calls_up_once : OneOutput said.calls.up.ended calls.up.Reads.Learnt
+calls_up_once _ _ _ _ p q i = (agree p.0 q.0 i, (agree p.1 q.1 i, _))
 
-pub calls-down-once : OneOutput calls.down.ended calls.down.Reads.Learnt
-calls-down-once _ _ _ _ p q i = (agree p q i, _)
+pub calls_down_once : OneOutput said.calls.down.ended calls.down.Reads.Learnt
+calls_down_once _ _ _ _ p q i = (agree p q i, _)
 ''',
     'crates/low/must-fail/one.edit': '',
     'crates/low/must-fail/two.edit': '',
@@ -111,6 +112,37 @@ class Repository(unittest.TestCase):
         return done.returncode, done.stdout.decode().splitlines(), done.stderr.decode()
 
 
+HANDED_ON = {
+    'crates.txt': GOOD['crates.txt'] + 'high_c staticlib: high low\n',
+    'crates/high_c/src/lib.rt': '''pub mod calls;
+
+#[unsafe(no_mangle)]
+pub extern "C" fn outside(table: &[u8]) -> u32
+    ensures { result ≡ 1 }
+{
+    high::outside(table)
+}
+''',
+    'crates/high_c/src/calls.rt': '''use high::calls;
+
+#[unsafe(no_mangle)]
+pub extern "C" fn up(table: &mut [u32]) -> u32
+    ensures answer { result ≡ 1 }
+    ensures table { table.new ≡ [] }
+{
+    calls::up(table)
+}
+
+#[unsafe(no_mangle)]
+pub extern "C" fn down() -> u32
+    ensures { result ≡ 1 }
+{
+    calls::down()
+}
+''',
+}
+
+
 class Contracts(Repository):
     def finds(self, name, old, new, *wrong):
         """What is found when one text is exchanged for another in a file of the good repository."""
@@ -125,16 +157,34 @@ class Contracts(Repository):
         seen = 'check-contracts: 2 crates, 3 public functions, 3 must-fail edits, 0 wrong'
         self.assertEqual(self.run_tool('check-contracts', self.root), (0, [seen], ''))
 
+    def test_a_static_library(self):
+        self.put({**GOOD, **HANDED_ON})
+        seen = 'check-contracts: 3 crates, 3 public functions, 3 must-fail edits, 0 wrong'
+        self.assertEqual(self.run_tool('check-contracts', self.root), (0, [seen], ''))
+        name = 'crates/high_c/src/calls.rt'
+        for old, new, wrong in (
+                ('result ≡ 1 }\n    ensures table', 'result ≡ 2 }\n    ensures table',
+                 ['high_c: calls::up does not say what that of high says (crates/high_c/src/calls.rt:4)']),
+                ('    ensures table { table.new ≡ [] }\n', '',
+                 ['high_c: calls::up does not say what that of high says (crates/high_c/src/calls.rt:4)']),
+                ('fn down', 'fn under',
+                 ['high_c: calls::under is no function of high (crates/high_c/src/calls.rt:12)',
+                  'high_c: calls::down of high is not handed on'])):
+            self.assertEqual(HANDED_ON[name].count(old), 1)
+            self.put({**GOOD, **HANDED_ON, name: HANDED_ON[name].replace(old, new)})
+            status, lines, _ = self.run_tool('check-contracts', self.root)
+            self.assertEqual((status, lines[:-1]), (1, wrong))
+
     def test_a_function_without_a_promise(self):
-        self.finds('crates/high/src/lib.rt', '    ensures { λ r. ⌜ r ≡ 1 ⌝ }\n', '',
+        self.finds('crates/high/src/lib.rt', '    ensures { result ≡ 1 }\n', '',
                    'high: outside has no ensures (crates/high/src/lib.rt:4)')
-        self.finds('crates/high/src/lib.rt', '-> u32\n    ensures { λ r. ⌜ r ≡ 1 ⌝ }\n{', '-> u32 {',
+        self.finds('crates/high/src/lib.rt', '-> u32\n    ensures { result ≡ 1 }\n{', '-> u32 {',
                    'high: outside has no ensures (crates/high/src/lib.rt:4)')
-        self.finds('crates/high/src/lib.rt', '    ensures { λ', '    // ensures { λ',
+        self.finds('crates/high/src/lib.rt', '    ensures { result', '    // ensures { result',
                    'high: outside has no ensures (crates/high/src/lib.rt:4)')
 
     def test_a_function_with_a_condition(self):
-        self.finds('crates/high/src/lib.rt', '    ensures', '    requires { ⌜ 0 ≡ 0 ⌝ }\n    ensures',
+        self.finds('crates/high/src/lib.rt', '    ensures', '    requires { 0 ≡ 0 }\n    ensures',
                    'high: outside has a requires (crates/high/src/lib.rt:4)')
 
     def test_a_function_that_is_not_named(self):
@@ -152,37 +202,37 @@ class Contracts(Repository):
                    'high: function calls::up is named twice in docs/CONTRACTS.md')
 
     def test_a_function_without_its_law(self):
-        wrong = 'high: calls::down has no law calls-down-once in proofs/OneOutput.antt (crates/high/src/calls.rt:23)'
+        wrong = 'high: calls::down has no law calls_down_once in proofs/OneOutput.antt (crates/high/src/calls.rt:23)'
         laws = 'crates/high/proofs/OneOutput.antt'
-        self.finds(laws, 'pub calls-down-once : OneOutput calls.down.ended calls.down.Reads.Learnt\n', '', wrong)
-        self.finds(laws, 'pub calls-down-once :', '-- pub calls-down-once :', wrong)
-        self.finds(laws, 'pub calls-down-once : OneOutput', 'pub calls-down-once : Another', wrong)
+        self.finds(laws, 'pub calls_down_once : OneOutput said.calls.down.ended calls.down.Reads.Learnt\n', '', wrong)
+        self.finds(laws, 'pub calls_down_once :', '-- pub calls_down_once :', wrong)
+        self.finds(laws, 'pub calls_down_once : OneOutput', 'pub calls_down_once : Another', wrong)
 
     def test_no_laws(self):
         self.put({name: text for name, text in GOOD.items() if name != 'crates/high/proofs/OneOutput.antt'})
         status, lines, _ = self.run_tool('check-contracts', self.root)
         self.assertEqual((status, lines[:-1]), (1, [
-            'high: calls::up has no law calls-up-once in proofs/OneOutput.antt (crates/high/src/calls.rt:14)',
-            'high: calls::down has no law calls-down-once in proofs/OneOutput.antt (crates/high/src/calls.rt:23)',
-            'high: outside has no law outside-once in proofs/OneOutput.antt (crates/high/src/lib.rt:4)']))
+            'high: calls::up has no law calls_up_once in proofs/OneOutput.antt (crates/high/src/calls.rt:14)',
+            'high: calls::down has no law calls_down_once in proofs/OneOutput.antt (crates/high/src/calls.rt:23)',
+            'high: outside has no law outside_once in proofs/OneOutput.antt (crates/high/src/lib.rt:4)']))
 
     def test_a_law_of_something_else(self):
-        wrong = ('high: calls-down-once does not say OneOutput calls.down.ended calls.down.Reads.Learnt'
-                 ' (crates/high/proofs/OneOutput.antt:11)')
+        wrong = ('high: calls_down_once does not say OneOutput said.calls.down.ended calls.down.Reads.Learnt'
+                 ' (crates/high/proofs/OneOutput.antt:12)')
         for old, new in (('calls.down.Reads.Learnt', 'calls.up.Reads.Learnt'), ('calls.down.ended', 'calls.up.ended'),
                          ('calls.down.Reads.Learnt', '(λ κs call answer exit. Learnt κs call answer exit)')):
             self.finds('crates/high/proofs/OneOutput.antt', old, new, wrong)
 
     def test_a_law_without_its_function(self):
-        for name in ('calls-own-once', 'calls-near-once', 'calls-down-twice'):
-            self.finds('crates/high/proofs/OneOutput.antt', 'pub outside-once', f'pub {name} : OneOutput x y\n\npub outside-once',
-                       f'high: {name} is the law of no public function (crates/high/proofs/OneOutput.antt:5)')
+        for name in ('calls_own_once', 'calls_near_once', 'calls_down_twice'):
+            self.finds('crates/high/proofs/OneOutput.antt', 'pub outside_once', f'pub {name} : OneOutput x y\n\npub outside_once',
+                       f'high: {name} is the law of no public function (crates/high/proofs/OneOutput.antt:6)')
 
     def test_laws_that_mean_something_else(self):
         laws = 'crates/high/proofs/OneOutput.antt'
-        for old, new in (('use Rattle·ground.specs.Unique.{OneOutput}', 'use Rattle·high·proofs.proofs.Unique.{OneOutput}'),
-                         ('use Rattle·high·proofs.proofs.calls', 'use Rattle·low·proofs.proofs.calls'),
-                         ('use Rattle·high·proofs.proofs.outside', 'use Rattle·high·proofs.proofs.inside as outside')):
+        for old, new in (('use Rattle.ground.specs.Unique.{OneOutput}', 'use Rattle.high.proofs.Unique.{OneOutput}'),
+                         ('use Rattle.high.proofs.calls', 'use Rattle.low.proofs.calls'),
+                         ('use Rattle.high.proofs.outside', 'use Rattle.high.proofs.inside as outside')):
             self.finds(laws, old, new, f'high: proofs/OneOutput.antt has no line {old}')
         self.finds('crates/high/proofs/Lib.antt', 'pub mod OneOutput', '-- pub mod OneOutput',
                    'high: proofs/Lib.antt does not list OneOutput')

@@ -1,5 +1,5 @@
 -- `fitness::fit::fit_queue` meets its contract: each return is the definition, by the tests that led there.
-use Prim.Native.Nat.{ℕ, ◌*◌, ◌≤◌}
+use Prim.Native.Nat.{ℕ, ◌*◌}
 use native.Mathlib.Omega.{arith}
 use mathlib.Core.Bool.{Bool, true, false, ◌||◌}
 use mathlib.Core.List.{List}
@@ -7,7 +7,7 @@ use mathlib.Core.Path.{◌≡◌, sym, ap, ◌∙◌}
 use borrow.Author.Tests.{eq-eqb, ne_eqb}
 use lib.Dec.{eqb}
 use lib.ListN.{drop}
-use Rattle.ground.specs.Limits.{queue_room, message_room}
+use Rattle.ground.specs.Limits.{message_room}
 use Rattle.ground.specs.Rows.{every}
 use Rattle.rules.specs.Tables.{part}
 use Rattle.ground.proofs.Parts.{to_end}

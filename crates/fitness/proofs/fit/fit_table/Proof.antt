@@ -2,7 +2,7 @@
 use Prim.Native.Nat.{◌*◌}
 use mathlib.Core.Path.{◌≡◌, refl, sym, ap, ◌∙◌}
 use borrow.Author.Rules.{rules}
-use borrow.Author.Tests.{not-true, not-false, eq-eqb, ne_eqb}
+use borrow.Author.Tests.{eq-eqb, ne_eqb}
 use Rattle.ground.specs.Rows.{at}
 use Rattle.rules.specs.Tables.{unit_words, part, fit_unit_table}
 use Rattle.slices.proofs.Stretches.{lent}

@@ -12,27 +12,27 @@ use Rattle.asking.proofs.asked.Statement.{statement}
 use Rattle.asking.proofs.asked.Tie as tie
 
 -- Nothing refuses the question.
-nothing_refused : (c : tie.Else1)
-    → let args = c.before.before.before.before.args in
+nothing_refused : (c : tie.Else-number-ne0)
+    → let args = c.args in
     pair_refusal args.words.now args.queues.now args.i args.j ≡ accepted
-nothing_refused c = sym c.before.pair-refusal.ensures ∙ c.if1.false
+nothing_refused c = sym c.pair_refusal-number.ensures ∙ c.if-number-ne0.false
 
-returns : tie.Need-returns
+returns : tie.Need-returns-then-number-ne0
 returns c =
-    let args = c.before.before.before.before.args in
+    let args = c.args in
     pair_refuses args.words.now args.queues.now args.i args.j args.question
-    c.before.pair-refusal.ensures c.if1.true
+    c.pair_refusal-number.ensures c.if-number-ne0.true
 
-part_ask_end : tie.Need-slice-bounds-ask-end
+part_ask_end : tie.Need-slice_bounds-ask-end
 part_ask_end c =
-    let args = c.before.before.before.before.args in
+    let args = c.args in
     let known = pair_asked args.words.now args.queues.now args.i args.j (nothing_refused c) in
     let there = table_there args.words.now args.queues.now known.0 args.i known.1 in
     search rules
 
-returns_2 : tie.Need-returns-2
+returns_2 : tie.Need-returns
 returns_2 c =
-    let args = c.before.before.before.before.before.before.args in
+    let args = c.args in
     rw (c.ask.ensures, lent args.words.now (args.i * unit_words) unit_words refl)
     (pair_answers args.words.now args.queues.now args.i args.j (nothing_refused c.before.before)
     args.question)

@@ -13,40 +13,40 @@ use Rattle.asking.proofs.pair_refusal.Statement.{statement}
 use Rattle.asking.proofs.pair_refusal.Tie as tie
 
 -- The tables are fit and the first number is a unit where the test went on.
-known : (c : tie.Else1)
-    → let args = c.before.before.before.before.args in
+known : (c : tie.Else-number-ne0)
+    → let args = c.args in
     (fit_tables args.words.now args.queues.now ≡ true) × (args.i < at args.words.now 0)
 known c =
-    let args = c.before.before.before.before.args in
-    unit_asked args.words.now args.queues.now args.i (sym c.before.unit-refusal.ensures ∙ c.if1.false)
+    let args = c.args in
+    unit_asked args.words.now args.queues.now args.i (sym c.unit_refusal-number.ensures ∙ c.if-number-ne0.false)
 
-returns : tie.Need-returns
+returns : tie.Need-returns-then-number-ne0
 returns c =
-    let args = c.before.before.before.before.args in
-    let refusal = c.before.unit-refusal.ensures in
+    let args = c.args in
+    let refusal = c.unit_refusal-number.ensures in
     refusal
-    ∙ pair_refused args.words.now args.queues.now args.i args.j (λ none. c.if1.true (refusal ∙ none))
+    ∙ pair_refused args.words.now args.queues.now args.i args.j (λ none. c.if-number-ne0.true (refusal ∙ none))
 
-shared_slice_read_if2 : tie.Need-shared-slice-read-if2
+shared_slice_read_if2 : tie.Need-bounds-words-0
 shared_slice_read_if2 c =
-    let args = c.before.before.before.before.before.args in
+    let args = c.args in
     omega (arith, fit_length args.words.now args.queues.now (known c.before).0)
 
-returns_2 : tie.Need-returns-2
+returns_2 : tie.Need-returns-then-words-j
 unfolding network_from
 returns_2 c =
-    let args = c.before.before.before.before.before.before.args in
+    let args = c.args in
     let count = at args.words.now 0 in
     let first = known c.before.before in
-    rw (first.0, lt-ltb args.i count first.1, le-ltb args.j count c.if2.true)
+    rw (first.0, lt-ltb args.i count first.1, le-ltb args.j count c.if-words-j.true)
 
-returns_3 : tie.Need-returns-3
+returns_3 : tie.Need-returns
 unfolding network_from
 returns_3 c =
-    let args = c.before.before.before.before.before.before.args in
+    let args = c.args in
     let count = at args.words.now 0 in
     let first = known c.before.before in
-    rw (first.0, lt-ltb args.i count first.1, lt-ltb args.j count c.if2.false)
+    rw (first.0, lt-ltb args.i count first.1, lt-ltb args.j count c.if-words-j.false)
 
 pub pair_refusal_spec : {M : Type 1} → statement M
 pair_refusal_spec =

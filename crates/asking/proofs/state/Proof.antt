@@ -13,25 +13,25 @@ use Rattle.asking.proofs.state.Statement.{statement}
 use Rattle.asking.proofs.state.Tie as tie
 
 -- Nothing refuses the question.
-nothing_refused : (c : tie.Else1)
-    → let args = c.before.before.before.before.args in
+nothing_refused : (c : tie.Else-number-ne0)
+    → let args = c.args in
     unit_refusal args.words.now args.queues.now args.i ≡ accepted
-nothing_refused c = sym c.before.unit-refusal.ensures ∙ c.if1.false
+nothing_refused c = sym c.unit_refusal-number.ensures ∙ c.if-number-ne0.false
 
-returns : tie.Need-returns
+returns : tie.Need-returns-then-number-ne0
 unfolding state_answer
-returns c = refused _ c.before.unit-refusal.ensures c.if1.true
+returns c = refused _ c.unit_refusal-number.ensures c.if-number-ne0.true
 
-part_active_end : tie.Need-slice-bounds-active-end
+part_active_end : tie.Need-slice_bounds-active-end
 part_active_end c =
-    let args = c.before.before.before.before.args in
+    let args = c.args in
     let known = unit_asked args.words.now args.queues.now args.i (nothing_refused c) in
     let there = table_there args.words.now args.queues.now known.0 args.i known.1 in
     search rules
 
-returns_2 : tie.Need-returns-2
+returns_2 : tie.Need-returns
 returns_2 c =
-    let args = c.before.before.before.before.before.before.args in
+    let args = c.args in
     rw (c.active.ensures, lent args.words.now (args.i * unit_words) unit_words refl)
     (state_asked args.words.now args.queues.now args.i (nothing_refused c.before.before))
 

@@ -25,72 +25,66 @@ lines_of words bytes i = unit_lines i (unit_at (network_from words bytes) i)
 abbrev shown_to : (words bytes : List ℕ) (i : ℕ) → List ℕ
 shown_to words bytes i = joined (tab i (lines_of words bytes))
 
-abbrev invariant_loop : tie.invariant-loop
+abbrev invariant_loop : tie.invariant-loop-i
 invariant_loop words queues out₀ used count then₀ i₀ out then i =
     (i ≤ count) × (length out ≡ length out₀) × Put out₀ used (shown_to words queues i) then out
 
-abbrev decreases_loop : tie.decreases-loop
+abbrev decreases_loop : tie.decreases-loop-i
 decreases_loop words queues out₀ used count then₀ i₀ out then i = count - i
 
--- The entry, from where the first unit's row is asked.
-abbrev start : tie.After-row-of invariant_loop decreases_loop → tie.Start invariant_loop decreases_loop
-start c = c.before.before.before.before
-
 -- What is known once that row is not refused.
-known : (c : tie.Else1 invariant_loop decreases_loop)
-    → let first = c.before.before in
-    Shows (start first).args.words.now (start first).args.queues.now first.row_of.result
-known c = shows _ _ c.before.before.row_of.ensures c.if1.false
+known : (c : tie.Else-first-ne0 invariant_loop decreases_loop)
+    →
+    Shows c.args.words.now c.args.queues.now c.row_of-first.result
+known c = shows _ _ c.row_of-first.ensures c.if-first-ne0.false
 
-returns : tie.Need-returns invariant_loop decreases_loop
+returns : tie.Need-returns-then-first-ne0 invariant_loop decreases_loop
 unfolding show_text
 returns c =
-    let put = c.before.before in
-    let first = put.before.before.before.before in
-    let args = first.before.before.before.before.args in
+    let args = c.args in
     let words = args.words.now in
     let queues = args.queues.now in
     let refused : (row_at words queues 0).refusal ≢ 0 =
-    λ e. put.before.before.if1.true (ap (λ (row : Row). row.refusal) first.row_of.ensures ∙ e) in
-    rw (unfit_refused words queues refused) put.Put-refused.ensures
+    λ e. c.if-first-ne0.true (ap (λ (row : Row). row.refusal) c.row_of-first.ensures ∙ e) in
+    rw (unfit_refused words queues refused) c.put_refused.ensures
 
-loop_holds : tie.Need-loop-init invariant_loop decreases_loop
+loop_holds : tie.Need-loop-i-init invariant_loop decreases_loop
 loop_holds c = (search rules, refl, put_none _ _)
 
-cast_count : tie.Need-overflow-cast-count invariant_loop decreases_loop
+cast_count : tie.Need-overflow_cast-count invariant_loop decreases_loop
 cast_count c = omega (arith, known c.before)
 
-put_unit_requires : tie.Need-put-unit-requires invariant_loop decreases_loop
+put_unit_requires : tie.Need-put_unit-then-requires invariant_loop decreases_loop
 put_unit_requires c κs =
     let tested = c.before.before in
-    row_high _ _ (known tested.before.before.before) _ tested.loop-test.true c.row-of2.ensures
+    row_high _ _ (known tested.before.before.before) _ tested.loop-i-test.true c.row_of.ensures
 
-add_i : tie.Need-overflow-add-i invariant_loop decreases_loop
+add_i : tie.Need-overflow_add-i invariant_loop decreases_loop
 add_i c =
     let tested = c.before.before.before.before.before in
-    omega (arith, known tested.before.before.before, tested.loop-test.true)
+    omega (arith, known tested.before.before.before, tested.loop-i-test.true)
 
-loop_again : tie.Need-loop-preserved invariant_loop decreases_loop
+loop_again : tie.Need-loop-i-preserved invariant_loop decreases_loop
 loop_again c =
     let put = c.before.before in
     let asked = put.before in
     let tested = asked.before.before in
     let here = tested.before in
     let told = known here.before.before in
-    let args = here.before.before.before.before.before.before.before.before.args in (
+    let args = here.args in (
       search rules,
       search rules,
-      put_as _ _ (sym (joined_more here.loop.i (lines_of args.words.now args.queues.now)))
-          (put_then _ _ _ _ here.loop.invariant.2
-          (put_as _ _ (row_shown _ _ told _ tested.loop-test.true asked.row-of2.ensures) put.put-unit.ensures)),
+      put_as _ _ (sym (joined_more here.loop-i.i (lines_of args.words.now args.queues.now)))
+          (put_then _ _ _ _ here.loop-i.invariant.2
+          (put_as _ _ (row_shown _ _ told _ tested.loop-i-test.true asked.row_of.ensures) put.put_unit-then.ensures)),
     )
 
-returns_2 : tie.Need-returns-2 invariant_loop decreases_loop
+returns_2 : tie.Need-returns invariant_loop decreases_loop
 unfolding show_text shown
 returns_2 c =
-    let here = c.before.loop in
+    let here = c.loop-i in
     let told = known c.before.before.before in
-    let args = c.before.before.before.before.before.before.before.before.before.args in
+    let args = c.args in
     let all : here.i ≡ (network_from args.words.now args.queues.now).count = omega (arith, told.all) in
     rw (told.fit, ← all) here.invariant.2
 

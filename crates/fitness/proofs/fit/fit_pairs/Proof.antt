@@ -9,34 +9,34 @@ use Rattle.fitness.proofs.EveryLoop.{every_stops, every_goes_on, every_ends}
 use Rattle.fitness.proofs.fit.fit_pairs.Statement.{statement}
 use Rattle.fitness.proofs.fit.fit_pairs.Tie as tie
 
-abbrev invariant_loop : tie.invariant-loop
+abbrev invariant_loop : tie.invariant-loop-b
 invariant_loop words queues count a b₀ b = (b ≤ count) × (every b (fit_pair words queues count a) ≡ true)
 
-abbrev decreases_loop : tie.decreases-loop
+abbrev decreases_loop : tie.decreases-loop-b
 decreases_loop words queues count a b₀ b = count - b
 
 -- The test of one unit, as the loop sees it.
-abbrev test : tie.At-loop invariant_loop decreases_loop → ℕ → Bool
+abbrev test : tie.At-loop-b invariant_loop decreases_loop → ℕ → Bool
 test c =
-    let args = c.before.before.before.args in
+    let args = c.args in
     fit_pair args.words.now args.queues.now args.count args.a
 
-returns : tie.Need-returns invariant_loop decreases_loop
+returns : tie.Need-returns-then-not-fit_pair invariant_loop decreases_loop
 returns c =
     let here = c.before.before.before in
-    every_stops (test here) here.loop.b _ c.before.before.loop-test.true
-    c.before.fit-pair.ensures c.if1.true
+    every_stops (test here) here.loop-b.b _ c.loop-b-test.true
+    c.fit_pair.ensures c.if-not-fit_pair.true
 
-loop_again : tie.Need-loop-preserved invariant_loop decreases_loop
+loop_again : tie.Need-loop-b-preserved invariant_loop decreases_loop
 loop_again c =
     let here = c.before.before.before in
-    let all = here.loop.invariant.1 in
-    (search rules, every_goes_on (test here) here.loop.b all c.before.fit-pair.ensures c.if1.false)
+    let all = here.loop-b.invariant.1 in
+    (search rules, every_goes_on (test here) here.loop-b.b all c.fit_pair.ensures c.if-not-fit_pair.false)
 
-returns_2 : tie.Need-returns-2 invariant_loop decreases_loop
+returns_2 : tie.Need-returns invariant_loop decreases_loop
 returns_2 c =
     let here = c.before in
-    every_ends (test here) here.loop.b _ here.loop.invariant.1 here.loop.invariant.0 c.loop-test.false
+    every_ends (test here) here.loop-b.b _ here.loop-b.invariant.1 here.loop-b.invariant.0 c.loop-b-test.false
 
 pub fit_pairs_spec : {M : Type 1} → statement M
 fit_pairs_spec =

@@ -21,74 +21,68 @@ use Rattle.fitness.proofs.fit.fit_places.Tie as tie
 abbrev fit_at : (queue : List ℕ) (count sender : ℕ) → ℕ → Bool
 fit_at queue count sender i = fit_place count sender (part queue (i * message_room) message_room)
 
-abbrev invariant_loop : tie.invariant-loop
+abbrev invariant_loop : tie.invariant-loop-i
 invariant_loop queue held count sender i₀ i = (i ≤ held) × (every i (fit_at queue count sender) ≡ true)
 
-abbrev decreases_loop : tie.decreases-loop
+abbrev decreases_loop : tie.decreases-loop-i
 decreases_loop queue held count sender i₀ i = held - i
 
--- The function's entry, as the loop sees it.
-abbrev start : tie.At-loop invariant_loop decreases_loop → tie.Start invariant_loop decreases_loop
-start c = c.before.before
-
 -- The test of one place, as the loop sees it.
-abbrev test : tie.At-loop invariant_loop decreases_loop → ℕ → Bool
-test c = fit_at (start c).args.queue.now (start c).args.count (start c).args.sender
+abbrev test : tie.At-loop-i invariant_loop decreases_loop → ℕ → Bool
+test c = fit_at c.args.queue.now c.args.count c.args.sender
 
 -- The place is one of the queue's.
-below : (c : tie.In-loop invariant_loop decreases_loop) → c.before.loop.i < queue_room
-below c = omega (arith, held_most (start c.before).args.queue.now)
+below : (c : tie.In-loop-i invariant_loop decreases_loop) → c.loop-i.i < queue_room
+below c = omega (arith, held_most c.args.queue.now)
 
 -- The test of a place as it is lent is the test of the place.
-tested : (c : tie.After-fit-place invariant_loop decreases_loop)
-    → c.fit-place.result ≡ test c.before.before.before c.before.before.before.loop.i
+tested : (c : tie.After-fit_place invariant_loop decreases_loop)
+    → c.fit_place.result ≡ test c.before.before.before c.loop-i.i
 tested c =
-    let here = c.before.before.before in
-    let args = (start here).args in
-    c.fit-place.ensures
-    ∙ ap (fit_place args.count args.sender) (lent args.queue.now (here.loop.i * message_room) message_room refl)
+    let args = c.args in
+    c.fit_place.ensures
+    ∙ ap (fit_place args.count args.sender) (lent args.queue.now (c.loop-i.i * message_room) message_room refl)
 
-mul_from : tie.Need-overflow-mul-from invariant_loop decreases_loop
+mul_from : tie.Need-overflow_mul-from invariant_loop decreases_loop
 mul_from c = omega (arith, below c)
 
-add_fit_place : tie.Need-overflow-add-fit-place invariant_loop decreases_loop
+add_fit_place : tie.Need-overflow_add-from invariant_loop decreases_loop
 add_fit_place c = omega (arith, below c)
 
-sub_fit_place : tie.Need-overflow-sub-fit-place invariant_loop decreases_loop
+sub_fit_place : tie.Need-slice_bounds-fit_place-count invariant_loop decreases_loop
 sub_fit_place c = omega (arith, below c)
 
-part_fit_place_start : tie.Need-slice-bounds-fit-place-start invariant_loop decreases_loop
+part_fit_place_start : tie.Need-slice_bounds-fit_place-start invariant_loop decreases_loop
 part_fit_place_start c = omega (arith, below c)
 
-part_fit_place_end : tie.Need-slice-bounds-fit-place-end invariant_loop decreases_loop
+part_fit_place_end : tie.Need-slice_bounds-fit_place-end invariant_loop decreases_loop
 part_fit_place_end c = omega (arith, below c)
 
-fit_place_requires : tie.Need-fit-place-requires invariant_loop decreases_loop
+fit_place_requires : tie.Need-fit_place-requires invariant_loop decreases_loop
 fit_place_requires c κs =
-    let here = c.before.before in
-    let pre = (start here).requires in (
+    let pre = c.requires in (
       pre.0,
       pre.1,
-      ap length (lent (start here).args.queue.now (here.loop.i * message_room) message_room refl)
-          ∙ part_length (start here).args.queue.now (here.loop.i * message_room) message_room
+      ap length (lent c.args.queue.now (c.loop-i.i * message_room) message_room refl)
+          ∙ part_length c.args.queue.now (c.loop-i.i * message_room) message_room
           (omega (arith, below c.before)),
     )
 
-returns : tie.Need-returns invariant_loop decreases_loop
+returns : tie.Need-returns-then-not-fit_place invariant_loop decreases_loop
 returns c =
     let here = c.before.before.before.before in
-    every_stops (test here) here.loop.i _ c.before.before.before.loop-test.true
-    (tested c.before) c.if1.true
+    every_stops (test here) here.loop-i.i _ c.loop-i-test.true
+    (tested c.before) c.if-not-fit_place.true
 
-loop_again : tie.Need-loop-preserved invariant_loop decreases_loop
+loop_again : tie.Need-loop-i-preserved invariant_loop decreases_loop
 loop_again c =
     let here = c.before.before.before.before in
-    (search rules, every_goes_on (test here) here.loop.i here.loop.invariant.1 (tested c.before) c.if1.false)
+    (search rules, every_goes_on (test here) here.loop-i.i here.loop-i.invariant.1 (tested c.before) c.if-not-fit_place.false)
 
-returns_2 : tie.Need-returns-2 invariant_loop decreases_loop
+returns_2 : tie.Need-returns invariant_loop decreases_loop
 returns_2 c =
     let here = c.before in
-    every_ends (test here) here.loop.i _ here.loop.invariant.1 here.loop.invariant.0 c.loop-test.false
+    every_ends (test here) here.loop-i.i _ here.loop-i.invariant.1 here.loop-i.invariant.0 c.loop-i-test.false
 
 pub fit_places_spec : {M : Type 1} → statement M
 fit_places_spec =

@@ -3,7 +3,6 @@ use Prim.Native.Nat.{◌+◌, ◌-◌, ◌*◌}
 use native.Mathlib.Omega.{arith}
 use mathlib.Core.Path.{◌≡◌, sym, ap, ap₂, ◌∙◌}
 use borrow.Author.Rules.{rules}
-use borrow.Author.Tests.{not-true, not-false}
 use Rattle.ground.specs.Limits.{unit_limit}
 use Rattle.ground.specs.Rows.{every}
 use Rattle.rules.specs.Tables.{queue_bytes, queue_at, part}
@@ -12,34 +11,30 @@ use Rattle.fitness.specs.PartsFit.{fit_pair, fit_sender}
 use Rattle.fitness.proofs.fit.fit_sender.Statement.{statement}
 use Rattle.fitness.proofs.fit.fit_sender.Tie as tie
 
--- The function's entry, as the place after the test of the pairs sees it.
-abbrev start : tie.After-fit-pairs → tie.Start
-start c = c.before.before.before
-
 -- The test of the pairs is the definition's.
-tested : (c : tie.After-fit-pairs)
-    → every (start c).args.count
-    (fit_pair (start c).args.words.now (start c).args.queues.now (start c).args.count (start c).args.a)
-    ≡ c.fit-pairs.result
-tested c = sym c.fit-pairs.ensures
+tested : (c : tie.After-fit_pairs)
+    → every c.args.count
+    (fit_pair c.args.words.now c.args.queues.now c.args.count c.args.a)
+    ≡ c.fit_pairs.result
+tested c = sym c.fit_pairs.ensures
 
-returns : tie.Need-returns
+returns : tie.Need-returns-then-not-fit_pairs
 unfolding fit_sender
-returns c = sym (rw (tested c.before ∙ not-true _ c.if1.true))
+returns c = sym (rw (tested c.before ∙ c.if-not-fit_pairs.true))
 
-returns_2 : tie.Need-returns-2
+returns_2 : tie.Need-returns
 unfolding fit_sender
 returns_2 c =
-    let begins = c.before.before.begins in
+    let begins = c.begins in
     let found = c.before.before.before in
-    let args = (start found.before).args in
-    let place : begins.result ≡ queue_at args.a args.count = omega (arith, (start found.before).requires) in
+    let args = found.args in
+    let place : begins.result ≡ queue_at args.a args.count = omega (arith, found.requires) in
     let left : args.a * (unit_limit * queue_bytes) + unit_limit * queue_bytes - begins.result
     ≡ (unit_limit - args.count) * queue_bytes =
-    omega (arith, (start found.before).requires) in
-    c.is-nothing.ensures
+    omega (arith, found.requires) in
+    c.is_nothing.ensures
     ∙ ap is_nothing (ap₂ (part args.queues.now) place left)
-    ∙ sym (rw (tested found.before ∙ not-false _ found.if1.false))
+    ∙ sym (rw (tested found.before ∙ found.if-not-fit_pairs.false))
 
 pub fit_sender_spec : {M : Type 1} → statement M
 fit_sender_spec =

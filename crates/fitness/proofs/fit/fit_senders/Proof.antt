@@ -9,34 +9,34 @@ use Rattle.fitness.proofs.EveryLoop.{every_stops, every_goes_on, every_ends}
 use Rattle.fitness.proofs.fit.fit_senders.Statement.{statement}
 use Rattle.fitness.proofs.fit.fit_senders.Tie as tie
 
-abbrev invariant_loop : tie.invariant-loop
+abbrev invariant_loop : tie.invariant-loop-a
 invariant_loop words queues count a₀ a = (a ≤ count) × (every a (fit_sender words queues count) ≡ true)
 
-abbrev decreases_loop : tie.decreases-loop
+abbrev decreases_loop : tie.decreases-loop-a
 decreases_loop words queues count a₀ a = count - a
 
 -- The test of one sender, as the loop sees it.
-abbrev test : tie.At-loop invariant_loop decreases_loop → ℕ → Bool
+abbrev test : tie.At-loop-a invariant_loop decreases_loop → ℕ → Bool
 test c =
-    let args = c.before.before.before.args in
+    let args = c.args in
     fit_sender args.words.now args.queues.now args.count
 
-returns : tie.Need-returns invariant_loop decreases_loop
+returns : tie.Need-returns-then-not-fit_sender invariant_loop decreases_loop
 returns c =
     let here = c.before.before.before in
-    every_stops (test here) here.loop.a _ c.before.before.loop-test.true
-    c.before.fit-sender.ensures c.if1.true
+    every_stops (test here) here.loop-a.a _ c.loop-a-test.true
+    c.fit_sender.ensures c.if-not-fit_sender.true
 
-loop_again : tie.Need-loop-preserved invariant_loop decreases_loop
+loop_again : tie.Need-loop-a-preserved invariant_loop decreases_loop
 loop_again c =
     let here = c.before.before.before in
-    let all = here.loop.invariant.1 in
-    (search rules, every_goes_on (test here) here.loop.a all c.before.fit-sender.ensures c.if1.false)
+    let all = here.loop-a.invariant.1 in
+    (search rules, every_goes_on (test here) here.loop-a.a all c.fit_sender.ensures c.if-not-fit_sender.false)
 
-returns_2 : tie.Need-returns-2 invariant_loop decreases_loop
+returns_2 : tie.Need-returns invariant_loop decreases_loop
 returns_2 c =
     let here = c.before in
-    every_ends (test here) here.loop.a _ here.loop.invariant.1 here.loop.invariant.0 c.loop-test.false
+    every_ends (test here) here.loop-a.a _ here.loop-a.invariant.1 here.loop-a.invariant.0 c.loop-a-test.false
 
 pub fit_senders_spec : {M : Type 1} → statement M
 fit_senders_spec =

@@ -14,43 +14,41 @@ use Rattle.meter.proofs.ReadFrames.{frame_there}
 use Rattle.meter.proofs.fit.fit_frames.Statement.{statement}
 use Rattle.meter.proofs.fit.fit_frames.Tie as tie
 
-abbrev invariant_loop : tie.invariant-loop
+abbrev invariant_loop : tie.invariant-loop-place
 invariant_loop count meter place₀ place = (place ≤ frame_limit) × (every place (fit_frame_at count meter) ≡ true)
 
-abbrev decreases_loop : tie.decreases-loop
+abbrev decreases_loop : tie.decreases-loop-place
 decreases_loop count meter place₀ place = frame_limit - place
 
 -- The test of one place, as the loop sees it.
-abbrev test : tie.At-loop invariant_loop decreases_loop → ℕ → Bool
+abbrev test : tie.At-loop-place invariant_loop decreases_loop → ℕ → Bool
 test c =
-    let args = c.before.before.args in
+    let args = c.args in
     fit_frame_at args.count args.meter.now
 
 -- The test of the frame that was read is the test of the place.
-tested : (c : tie.After-fit-frame invariant_loop decreases_loop)
-    → c.fit-frame.result ≡ test c.before.before.before c.before.before.before.loop.place
+tested : (c : tie.After-fit_frame invariant_loop decreases_loop)
+    → c.fit_frame.result ≡ test c.before.before.before c.loop-place.place
 tested c =
-    let here = c.before.before.before in
-    let start = here.before.before in
-    c.fit-frame.ensures
-    ∙ ap (λ (frame : Frame). fit_frame start.args.count (frame_of frame)) c.before.frame-in.ensures
-    ∙ ap (fit_frame start.args.count) (frame_there start.args.meter.now here.loop.place start.requires)
+    c.fit_frame.ensures
+    ∙ ap (λ (frame : Frame). fit_frame c.args.count (frame_of frame)) c.frame_in.ensures
+    ∙ ap (fit_frame c.args.count) (frame_there c.args.meter.now c.loop-place.place c.requires)
 
-returns : tie.Need-returns invariant_loop decreases_loop
+returns : tie.Need-returns-then-not-fit_frame invariant_loop decreases_loop
 returns c =
     let here = c.before.before.before.before in
-    every_stops (test here) here.loop.place _ c.before.before.before.loop-test.true
-    (tested c.before) c.if1.true
+    every_stops (test here) here.loop-place.place _ c.loop-place-test.true
+    (tested c.before) c.if-not-fit_frame.true
 
-loop_again : tie.Need-loop-preserved invariant_loop decreases_loop
+loop_again : tie.Need-loop-place-preserved invariant_loop decreases_loop
 loop_again c =
     let here = c.before.before.before.before in
-    (search rules, every_goes_on (test here) here.loop.place here.loop.invariant.1 (tested c.before) c.if1.false)
+    (search rules, every_goes_on (test here) here.loop-place.place here.loop-place.invariant.1 (tested c.before) c.if-not-fit_frame.false)
 
-returns_2 : tie.Need-returns-2 invariant_loop decreases_loop
+returns_2 : tie.Need-returns invariant_loop decreases_loop
 returns_2 c =
     let here = c.before in
-    every_ends (test here) here.loop.place _ here.loop.invariant.1 here.loop.invariant.0 c.loop-test.false
+    every_ends (test here) here.loop-place.place _ here.loop-place.invariant.1 here.loop-place.invariant.0 c.loop-place-test.false
 
 pub fit_frames_spec : {M : Type 1} → statement M
 fit_frames_spec =

@@ -9,30 +9,29 @@ use Rattle.events.proofs.tell.tell_first.Statement.{statement}
 use Rattle.events.proofs.tell.tell_first.Tie as tie
 
 -- The queue has its length.
-wide : (c : tie.After-load) → length c.load.result ≡ queue_bytes
+wide : (c : tie.After-load-queue) → length c.load-queue.result ≡ queue_bytes
 wide c = search rules
 
-returns : tie.Need-returns
+returns : tie.Need-returns-then-queue-eq0
 returns c =
-    let load = c.before.before in
-    let s = load.before.before.before.args in
-    none_first s.words.now s.queues.now s.a s.b load.load.ensures c.before.if1.true
+    let s = c.args in
+    none_first s.words.now s.queues.now s.a s.b c.load-queue.ensures c.if-queue-eq0.true
     c.none_told.ensures
 
-slice_aggregate_tell_bytes : tie.Need-slice-aggregate-tell-bytes
+slice_aggregate_tell_bytes : tie.Need-slice_bounds-tell_bytes-end
 slice_aggregate_tell_bytes c =
     let first = c.before in
     let load = first.before.before in
     let long = wide load in
-    omega (arith, length-take first.first-length.result load.load.result)
+    omega (arith, length-take first.first_length-length.result load.load-queue.result)
 
-returns_2 : tie.Need-returns-2
+returns_2 : tie.Need-returns
 returns_2 c =
     let first = c.before.before in
     let load = first.before.before in
-    let s = load.before.before.before.args in
-    some_first s.words.now s.queues.now s.a s.b load.load.ensures first.before.if1.false (wide load)
-    first.first-length.ensures c.tell-bytes.ensures
+    let s = load.args in
+    some_first s.words.now s.queues.now s.a s.b load.load-queue.ensures first.if-queue-eq0.false (wide load)
+    first.first_length-length.ensures c.tell_bytes.ensures
 
 pub tell_first_spec : {M : Type 1} → statement M
 tell_first_spec =

@@ -6,28 +6,19 @@ use Rattle.network.proofs.calls.OneEvent.{one_answers}
 use Rattle.network.proofs.calls.cost.Statement.{statement}
 use Rattle.network.proofs.calls.cost.Tie as tie
 
--- The function's entry, as the place after the first refusals sees it.
-abbrev start : tie.After-first-refusal → tie.Start
-start c = c.before.before.before.before.before.before
-
-returns : tie.Need-returns
+returns : tie.Need-returns-then-number-ne0
 returns c =
-    let first = c.before in
-    let s = (start first).args in
-    cost_refused s.words.now s.queues.now s.a s.b s.new-cost first.before.is-legal-cost.ensures
-    first.first-refusal.ensures c.if1.true
+    let s = c.args in
+    cost_refused s.words.now s.queues.now s.a s.b s.new_cost c.is_legal_cost.ensures
+    c.first_refusal-number.ensures c.if-number-ne0.true
 
-returns_2 : tie.Need-returns-2
+returns_2 : tie.Need-returns
 returns_2 c =
-    let last = c.before.before.before.before in
-    let told = last.before.before.before in
-    let fork = told.before.before in
-    let first = fork.before in
-    let s = (start first).args in
+    let s = c.args in
     let event =
-    cost_one s.words.now s.queues.now s.a s.b s.new-cost first.before.is-legal-cost.ensures
-    first.first-refusal.ensures fork.if1.false told.tell.ensures in
-    one_answers event s.b false event.tries.tabled last.at_one.ensures
+    cost_one s.words.now s.queues.now s.a s.b s.new_cost c.is_legal_cost.ensures
+    c.first_refusal-number.ensures c.if-number-ne0.false c.tell-told.ensures in
+    one_answers event s.b false event.tries.tabled c.at_one.ensures
 
 pub cost_spec : {M : Type 1} → statement M
 cost_spec =

@@ -7,37 +7,26 @@ use Rattle.network.proofs.calls.OneEvent.{one_answers}
 use Rattle.network.proofs.calls.deliver.Statement.{statement}
 use Rattle.network.proofs.calls.deliver.Tie as tie
 
--- The function's entry, as the place after the first refusals sees it.
-abbrev start : tie.After-first-refusal → tie.Start
-start c = c.before.before.before.before.before
-
-returns : tie.Need-returns
+returns : tie.Need-returns-then-number-ne0
 returns c =
-    let s = (start c.before).args in
-    refused_link s.words.now s.queues.now s.a s.b c.before.first-refusal.ensures c.if1.true
+    let s = c.args in
+    refused_link s.words.now s.queues.now s.a s.b c.first_refusal-number.ensures c.if-number-ne0.true
 
-returns_2 : tie.Need-returns-2
+returns_2 : tie.Need-returns-then-told-lt-ANSWERED
 returns_2 c =
-    let told = c.before.before in
-    let fork = told.before.before.before in
-    let s = (start fork.before).args in
-    refused_told s.words.now s.queues.now s.a s.b fork.before.first-refusal.ensures fork.if1.false
-    told.tell-first.ensures c.if2.true
+    let s = c.args in
+    refused_told s.words.now s.queues.now s.a s.b c.first_refusal-number.ensures c.if-number-ne0.false
+    c.tell_first-told.ensures c.if-told-lt-ANSWERED.true
 
-returns_3 : tie.Need-returns-3
+returns_3 : tie.Need-returns
 returns_3 c =
-    let last = c.before.before.before.before in
-    let taken = last.before.before.before in
-    let told = taken.before.before in
-    let fork = told.before.before.before in
-    let first = fork.before in
-    let s = (start first).args in
+    let s = c.args in
     one_answers
-    (deliver_one s.words.now s.queues.now s.a s.b first.first-refusal.ensures fork.if1.false
-    told.tell-first.ensures taken.if2.false)
+    (deliver_one s.words.now s.queues.now s.a s.b c.first_refusal-number.ensures c.if-number-ne0.false
+    c.tell_first-told.ensures c.if-told-lt-ANSWERED.false)
     s.a true
-    (first_popped s.words.now s.queues.now s.a s.b first.first-refusal.ensures fork.if1.false)
-    last.at_one.ensures
+    (first_popped s.words.now s.queues.now s.a s.b c.first_refusal-number.ensures c.if-number-ne0.false)
+    c.at_one.ensures
 
 pub deliver_spec : {M : Type 1} → statement M
 deliver_spec =

@@ -7,29 +7,20 @@ use Rattle.network.proofs.calls.TwoEvents.{both-answer}
 use Rattle.network.proofs.calls.down.Statement.{statement}
 use Rattle.network.proofs.calls.down.Tie as tie
 
--- The function's entry, as the place after the first refusals sees it.
-abbrev start : tie.After-first-refusal → tie.Start
-start c = c.before.before.before.before.before
-
-returns : tie.Need-returns
+returns : tie.Need-returns-then-number-ne0
 returns c =
-    let s = (start c.before).args in
-    down_refused s.words.now s.queues.now s.a s.b c.before.first-refusal.ensures c.if1.true
+    let s = c.args in
+    down_refused s.words.now s.queues.now s.a s.b c.first_refusal-number.ensures c.if-number-ne0.true
 
-returns_2 : tie.Need-returns-2
+returns_2 : tie.Need-returns
 returns_2 c =
-    let last = c.before.before.before.before in
-    let two = last.before.before.before in
-    let one = two.before.before in
-    let fork = one.before.before in
-    let first = fork.before in
-    let s = (start first).args in
+    let s = c.args in
     both-answer
-    (down_pair s.words.now s.queues.now s.a s.b first.first-refusal.ensures fork.if1.false
-    one.tell.ensures two.tell2.ensures)
+    (down_pair s.words.now s.queues.now s.a s.b c.first_refusal-number.ensures c.if-number-ne0.false
+    c.tell-one.ensures c.tell-two.ensures)
     true
-    (link_emptied s.words.now s.queues.now s.a s.b first.first-refusal.ensures fork.if1.false)
-    last.at_both.ensures
+    (link_emptied s.words.now s.queues.now s.a s.b c.first_refusal-number.ensures c.if-number-ne0.false)
+    c.at_both.ensures
 
 pub down_spec : {M : Type 1} → statement M
 down_spec =

@@ -10,23 +10,23 @@ use Rattle.network.proofs.calls.ends_refusal.Statement.{statement}
 use Rattle.network.proofs.calls.ends_refusal.Tie as tie
 
 -- The tables are fit where the test went on.
-fits : (c : tie.Else1) → let s = c.before.before.before.before.args in
+fits : (c : tie.Else-not-is_fit) → let s = c.args in
     fit_tables s.words.now s.queues.now ≡ true
-fits c = sym c.before.is-fit.ensures ∙ not-false c.before.is-fit.result c.if1.false
+fits c = sym c.is_fit.ensures ∙ c.if-not-is_fit.false
 
-returns : tie.Need-returns
-returns c = rw (sym c.before.is-fit.ensures ∙ not-true c.before.is-fit.result c.if1.true)
+returns : tie.Need-returns-then-not-is_fit
+returns c = rw (sym c.is_fit.ensures ∙ c.if-not-is_fit.true)
 
-shared_slice_read_are_bad_ends : tie.Need-shared-slice-read-are-bad-ends
+shared_slice_read_are_bad_ends : tie.Need-bounds-words-0
 shared_slice_read_are_bad_ends c =
-    let s = c.before.before.before.before.before.args in
+    let s = c.args in
     omega (arith, fit_length s.words.now s.queues.now (fits c.before))
 
-returns_2 : tie.Need-returns-2
-returns_2 c = rw (fits c.before.before.before, sym c.before.are-bad-ends.ensures ∙ c.if2.true)
+returns_2 : tie.Need-returns-then-are_bad_ends
+returns_2 c = rw (fits c.before.before.before, sym c.are_bad_ends.ensures ∙ c.if-are_bad_ends.true)
 
-returns_3 : tie.Need-returns-3
-returns_3 c = rw (fits c.before.before.before, sym c.before.are-bad-ends.ensures ∙ c.if2.false)
+returns_3 : tie.Need-returns
+returns_3 c = rw (fits c.before.before.before, sym c.are_bad_ends.ensures ∙ c.if-are_bad_ends.false)
 
 pub ends_refusal_spec : {M : Type 1} → statement M
 ends_refusal_spec =

@@ -14,56 +14,54 @@ use Rattle.network.proofs.fresh.fresh.Statement.{statement}
 use Rattle.network.proofs.fresh.fresh.Tie as tie
 
 -- The count is legal where its tests went on.
-right_count : (c : tie.Else2) → legal_count c.before.before.before.before.args.count ≡ true
-right_count c = count_legal c.before.before.before.before.args.count c.before.if1.false c.if2.false
+right_count : (c : tie.Else-count) → legal_count c.args.count ≡ true
+right_count c = count_legal c.args.count c.if-count-lt2.false c.if-count.false
 
-returns : tie.Need-returns
+returns : tie.Need-returns-then-count-lt2
 unfolding fresh_words fresh_bytes
 returns c =
-    let low = count_low c.before.before.before.args.count c.if1.true in
+    let low = count_low c.args.count c.if-count-lt2.true in
     (rw low, (rw low, rw low))
 
-returns_2 : tie.Need-returns-2
+returns_2 : tie.Need-returns-then-count
 unfolding fresh_words fresh_bytes
 returns_2 c =
-    let high = count_high c.before.before.before.before.args.count c.if2.true in
+    let high = count_high c.args.count c.if-count.true in
     (rw high, (rw high, rw high))
 
-returns_3 : tie.Need-returns-3
+returns_3 : tie.Need-returns-then-words-ne-NETWORK_WORDS
 unfolding fresh_words fresh_bytes
 returns_3 c =
     let legal = right_count c.before in
-    let numbers = ne_eqb _ network_words c.if3.true in
+    let numbers = ne_eqb _ network_words c.if-words-ne-NETWORK_WORDS.true in
     (rw (legal, numbers), (rw (legal, numbers), rw (legal, numbers)))
 
-returns_4 : tie.Need-returns-4
+returns_4 : tie.Need-returns-then-queues-ne-NETWORK_BYTES
 unfolding fresh_words fresh_bytes
 returns_4 c =
     let legal = right_count c.before.before in
-    let numbers = eq-eqb _ network_words c.before.if3.false in
-    let bytes = ne_eqb _ network_bytes c.if4.true in
+    let numbers = eq-eqb _ network_words c.if-words-ne-NETWORK_WORDS.false in
+    let bytes = ne_eqb _ network_bytes c.if-queues-ne-NETWORK_BYTES.true in
     (rw (legal, numbers, bytes), (rw (legal, numbers, bytes), rw (legal, numbers, bytes)))
 
-fresh_units_requires : tie.Need-fresh-units-requires
+fresh_units_requires : tie.Need-fresh_units-requires
 fresh_units_requires c κs =
-    let cleared = c.before.before.before.before.before.before.before in
-    let tests = cleared.before.before in
-    (omega arith, omega arith, cleared.clear.ensures ∙ ap zeros tests.before.if3.false)
+    (omega arith, omega arith, c.clear.ensures ∙ ap zeros c.if-words-ne-NETWORK_WORDS.false)
 
-returns_5 : tie.Need-returns-5
+returns_5 : tie.Need-returns
 unfolding fresh_words fresh_bytes
 returns_5 c =
     let cleared = c.before.before.before.before.before.before in
     let tests = cleared.before.before.before.before.before.before in
     let legal = right_count tests.before.before in
-    let numbers = eq-eqb _ network_words tests.before.if3.false in
-    let bytes = eq-eqb _ network_bytes tests.if4.false in
-    let count = tests.before.before.before.before.before.before.args.count in
-    let empty = sym (fresh_queues count tests.before.before.if2.false) in (
+    let numbers = eq-eqb _ network_words tests.if-words-ne-NETWORK_WORDS.false in
+    let bytes = eq-eqb _ network_bytes tests.if-queues-ne-NETWORK_BYTES.false in
+    let count = tests.args.count in
+    let empty = sym (fresh_queues count tests.if-count.false) in (
       rw (legal, numbers, bytes),
       (
-        rw (legal, numbers, bytes) c.before.before.fresh-units.ensures,
-        rw (legal, numbers, bytes) (cleared.clear2.ensures ∙ ap zeros tests.if4.false ∙ empty),
+        rw (legal, numbers, bytes) c.fresh_units.ensures,
+        rw (legal, numbers, bytes) (cleared.clear-2.ensures ∙ ap zeros tests.if-queues-ne-NETWORK_BYTES.false ∙ empty),
       ),
     )
 

@@ -1,0 +1,28 @@
+-- `border::meters::ask_figure` meets its contract: tables of another length are unfit; else the question is put to the numbers.
+use Rattle.meter.specs.Reading.{figure_asked}
+use Rattle.border.proofs.MeterBorder.{units_unasked, meter_unasked, both_asked}
+use Rattle.border.proofs.meters.ask_figure.Goals as goal
+
+pub returns-then-units-ne-UNITS_BYTES : goal.returns-then-units-ne-UNITS_BYTES
+returns-then-units-ne-UNITS_BYTES c =
+    let args = c.args in
+    units_unasked args.units.now args.meter.now
+    (λ words table. figure_asked args.which words args.queues.now table)
+    c.if-units-ne-UNITS_BYTES.true
+
+pub returns-then-meter-ne-METER_BYTES : goal.returns-then-meter-ne-METER_BYTES
+returns-then-meter-ne-METER_BYTES c =
+    let args = c.args in
+    meter_unasked args.units.now args.meter.now
+    (λ words table. figure_asked args.which words args.queues.now table)
+    c.if-units-ne-UNITS_BYTES.false c.if-meter-ne-METER_BYTES.true
+
+pub returns : goal.returns
+returns c =
+    let args = c.args in
+    both_asked args.units.now args.meter.now
+    (λ words table. figure_asked args.which words args.queues.now table)
+    c.if-units-ne-UNITS_BYTES.false c.if-meter-ne-METER_BYTES.false
+    c.take_numbers.ensures
+    c.take_numbers-2.ensures
+    c.ask_figure.ensures

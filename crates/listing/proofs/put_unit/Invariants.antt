@@ -7,7 +7,10 @@ use Rattle.listing.specs.Showing.{ways_to}
 use Rattle.listing.proofs.put_unit.Given as goal
 
 abbrev pub invariant-loop-j : goal.invariant-loop-j
-invariant-loop-j l = (l.j ≤ l.count) × (length l.out ≡ length l.initial.out) × Put l.initial.out l.initial.then (ways_to l.unit l.i l.j) l.then l.out
+invariant-loop-j l =
+    (l.j ≤ l.count)
+    × (length l.out ≡ length l.initial.out)
+    × Put l.initial.out l.initial.then (ways_to l.unit l.i l.j) l.then l.out
 
 abbrev pub decreases-loop-j : goal.decreases-loop-j
 decreases-loop-j l = l.count - l.j

@@ -1,7 +1,7 @@
 -- `fitness::fit::fit_pairs` meets its contract. The invariant: unit a and each unit below b pass the test.
 use Prim.Native.Nat.{ℕ, ◌-◌, ◌≤◌}
-use mathlib.Core.Bool.{Bool, true}
-use mathlib.Core.Path.{◌≡◌}
+use mathlib.Core.Bool.{Bool, true, not}
+use mathlib.Core.Path.{◌≡◌, ap}
 use borrow.Author.Rules.{rules}
 use Rattle.ground.specs.Rows.{every}
 use Rattle.fitness.specs.PartsFit.{fit_pair}
@@ -25,13 +25,13 @@ returns : tie.Need-returns-then-not-fit_pair invariant_loop decreases_loop
 returns c =
     let here = c.before.before.before in
     every_stops (test here) here.loop-b.b _ c.loop-b-test.true
-    c.fit_pair.ensures c.if-not-fit_pair.true
+    c.fit_pair.ensures (ap not c.if-not-fit_pair.true)
 
 loop_again : tie.Need-loop-b-preserved invariant_loop decreases_loop
 loop_again c =
     let here = c.before.before.before in
     let all = here.loop-b.invariant.1 in
-    (search rules, every_goes_on (test here) here.loop-b.b all c.fit_pair.ensures c.if-not-fit_pair.false)
+    (search rules, every_goes_on (test here) here.loop-b.b all c.fit_pair.ensures (ap not c.if-not-fit_pair.false))
 
 returns_2 : tie.Need-returns invariant_loop decreases_loop
 returns_2 c =

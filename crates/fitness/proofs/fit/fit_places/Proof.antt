@@ -1,7 +1,7 @@
 -- `fitness::fit::fit_places` meets its contract. The invariant: each place below i is fit.
 use Prim.Native.Nat.{ℕ, ◌*◌, ◌-◌, ◌≤◌, ◌<◌}
 use native.Mathlib.Omega.{arith}
-use mathlib.Core.Bool.{Bool, true}
+use mathlib.Core.Bool.{Bool, true, not}
 use mathlib.Core.List.{List}
 use mathlib.Core.Path.{◌≡◌, refl, ap, ◌∙◌}
 use borrow.Author.Rules.{rules}
@@ -72,12 +72,12 @@ returns : tie.Need-returns-then-not-fit_place invariant_loop decreases_loop
 returns c =
     let here = c.before.before.before.before in
     every_stops (test here) here.loop-i.i _ c.loop-i-test.true
-    (tested c.before) c.if-not-fit_place.true
+    (tested c.before) (ap not c.if-not-fit_place.true)
 
 loop_again : tie.Need-loop-i-preserved invariant_loop decreases_loop
 loop_again c =
     let here = c.before.before.before.before in
-    (search rules, every_goes_on (test here) here.loop-i.i here.loop-i.invariant.1 (tested c.before) c.if-not-fit_place.false)
+    (search rules, every_goes_on (test here) here.loop-i.i here.loop-i.invariant.1 (tested c.before) (ap not c.if-not-fit_place.false))
 
 returns_2 : tie.Need-returns invariant_loop decreases_loop
 returns_2 c =

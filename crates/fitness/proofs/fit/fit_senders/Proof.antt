@@ -1,7 +1,7 @@
 -- `fitness::fit::fit_senders` meets its contract. The invariant: the queues of each sender below a pass the test.
 use Prim.Native.Nat.{ℕ, ◌-◌, ◌≤◌}
-use mathlib.Core.Bool.{Bool, true}
-use mathlib.Core.Path.{◌≡◌}
+use mathlib.Core.Bool.{Bool, true, not}
+use mathlib.Core.Path.{◌≡◌, ap}
 use borrow.Author.Rules.{rules}
 use Rattle.ground.specs.Rows.{every}
 use Rattle.fitness.specs.PartsFit.{fit_sender}
@@ -25,13 +25,13 @@ returns : tie.Need-returns-then-not-fit_sender invariant_loop decreases_loop
 returns c =
     let here = c.before.before.before in
     every_stops (test here) here.loop-a.a _ c.loop-a-test.true
-    c.fit_sender.ensures c.if-not-fit_sender.true
+    c.fit_sender.ensures (ap not c.if-not-fit_sender.true)
 
 loop_again : tie.Need-loop-a-preserved invariant_loop decreases_loop
 loop_again c =
     let here = c.before.before.before in
     let all = here.loop-a.invariant.1 in
-    (search rules, every_goes_on (test here) here.loop-a.a all c.fit_sender.ensures c.if-not-fit_sender.false)
+    (search rules, every_goes_on (test here) here.loop-a.a all c.fit_sender.ensures (ap not c.if-not-fit_sender.false))
 
 returns_2 : tie.Need-returns invariant_loop decreases_loop
 returns_2 c =

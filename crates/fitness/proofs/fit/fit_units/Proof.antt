@@ -1,7 +1,7 @@
 -- `fitness::fit::fit_units` meets its contract. The invariant: each table below i is fit.
 use Prim.Native.Nat.{ℕ, ◌-◌, ◌≤◌}
-use mathlib.Core.Bool.{Bool, true}
-use mathlib.Core.Path.{◌≡◌}
+use mathlib.Core.Bool.{Bool, true, not}
+use mathlib.Core.Path.{◌≡◌, ap}
 use borrow.Author.Rules.{rules}
 use Rattle.ground.specs.Rows.{every}
 use Rattle.fitness.specs.PartsFit.{fit_table_at}
@@ -25,13 +25,13 @@ returns : tie.Need-returns-then-not-fit_table invariant_loop decreases_loop
 returns c =
     let here = c.before.before.before in
     every_stops (test here) here.loop-i.i _ c.loop-i-test.true
-    c.fit_table.ensures c.if-not-fit_table.true
+    c.fit_table.ensures (ap not c.if-not-fit_table.true)
 
 loop_again : tie.Need-loop-i-preserved invariant_loop decreases_loop
 loop_again c =
     let here = c.before.before.before in
     let all = here.loop-i.invariant.1 in
-    (search rules, every_goes_on (test here) here.loop-i.i all c.fit_table.ensures c.if-not-fit_table.false)
+    (search rules, every_goes_on (test here) here.loop-i.i all c.fit_table.ensures (ap not c.if-not-fit_table.false))
 
 returns_2 : tie.Need-returns invariant_loop decreases_loop
 returns_2 c =

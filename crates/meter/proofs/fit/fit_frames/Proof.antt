@@ -1,6 +1,6 @@
 -- `meter::fit::fit_frames` meets its contract. The invariant: each place below this one is fit.
 use Prim.Native.Nat.{ℕ, ◌-◌, ◌≤◌}
-use mathlib.Core.Bool.{Bool, true}
+use mathlib.Core.Bool.{Bool, true, not}
 use mathlib.Core.Path.{◌≡◌, ap, ◌∙◌}
 use borrow.Author.Rules.{rules}
 use Rattle.ground.specs.Limits.{frame_limit}
@@ -38,12 +38,12 @@ returns : tie.Need-returns-then-not-fit_frame invariant_loop decreases_loop
 returns c =
     let here = c.before.before.before.before in
     every_stops (test here) here.loop-place.place _ c.loop-place-test.true
-    (tested c.before) c.if-not-fit_frame.true
+    (tested c.before) (ap not c.if-not-fit_frame.true)
 
 loop_again : tie.Need-loop-place-preserved invariant_loop decreases_loop
 loop_again c =
     let here = c.before.before.before.before in
-    (search rules, every_goes_on (test here) here.loop-place.place here.loop-place.invariant.1 (tested c.before) c.if-not-fit_frame.false)
+    (search rules, every_goes_on (test here) here.loop-place.place here.loop-place.invariant.1 (tested c.before) (ap not c.if-not-fit_frame.false))
 
 returns_2 : tie.Need-returns invariant_loop decreases_loop
 returns_2 c =

@@ -32,7 +32,7 @@ returns : tie.Need-returns
 returns c =
     let args = c.args in
     c.lay_over.ensures
-    ∙ bytes_counted args.meter.now c.requires.0 (λ i. omega (arith, c.slice_known-1.given i))
+    ∙ bytes_counted args.meter.now c.requires.0 (λ i. grind arith)
     args.sum args.size _ _ c.start_of-from.ensures
     (ap (λ figure. figure + args.size) c.stored.ensures)
 

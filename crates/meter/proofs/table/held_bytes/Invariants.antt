@@ -1,5 +1,4 @@
--- The invariant: the bytes at the places below this one, and that they are not too
--- many.
+-- The invariant: the bytes at the places below this one, and that they are not too many.
 use Prim.Native.Nat.{◌*◌, ◌-◌, ◌≤◌}
 use mathlib.Core.Path.{◌≡◌}
 use Rattle.ground.specs.Limits.{frame_limit, far}
@@ -9,7 +8,10 @@ use Rattle.frames.specs.MeterTable.{meter_from}
 use Rattle.meter.proofs.table.held_bytes.Given as goal
 
 abbrev pub invariant-loop-place : goal.invariant-loop-place
-invariant-loop-place l = (l.place ≤ frame_limit) × (l.bytes ≤ l.place * far) × (l.bytes ≡ total l.place (λ p. (frame_at (meter_from l.meter) p).size))
+invariant-loop-place l =
+    (l.place ≤ frame_limit)
+    × (l.bytes ≤ l.place * far)
+    × (l.bytes ≡ total l.place (λ p. (frame_at (meter_from l.meter) p).size))
 
 abbrev pub decreases-loop-place : goal.decreases-loop-place
 decreases-loop-place l = frame_limit - l.place

@@ -9,7 +9,10 @@ use Rattle.meter.specs.Reading.{held_as}
 use Rattle.meter.proofs.table.held_frames.Given as goal
 
 abbrev pub invariant-loop-place : goal.invariant-loop-place
-invariant-loop-place l = (l.place ≤ frame_limit) × (l.frames ≤ l.place) × (l.frames ≡ total l.place (λ p. held_as (frame_at (meter_from l.meter) p).size))
+invariant-loop-place l =
+    (l.place ≤ frame_limit)
+    × (l.frames ≤ l.place)
+    × (l.frames ≡ total l.place (λ p. held_as (frame_at (meter_from l.meter) p).size))
 
 abbrev pub decreases-loop-place : goal.decreases-loop-place
 decreases-loop-place l = frame_limit - l.place

@@ -12,4 +12,8 @@ pub returns : goal.returns
 returns c =
     let called = c.trace in
     let args = c.args in
-    record { answer = rw (← traces_as _ _ _ _ args.choices.now args.path.now called.result called.ensures.answer) c.number_of.ensures; path = called.ensures.path }
+    record {
+      answer =
+          rw (← traces_as _ _ _ _ args.choices.now args.path.now called.result called.ensures.answer) c.number_of.ensures;
+      path = called.ensures.path;
+    }

@@ -6,10 +6,8 @@ use mathlib.Core.List.{List, [], ◌∷◌}
 use mathlib.Core.Logic.{◌≢◌, ⊎_elim}
 use mathlib.Core.Path.{◌≡◌, refl, sym, ap, ◌∙◌}
 use borrow.Author.Tests.{eq-eqb, ne_eqb, lt-leb}
-use denote.Enum.Declared.{tag_of}
 use lib.Dec.{eqb}
 use lib.ListN.{length}
-use types.Run.{OneOf, miss}
 use Rattle.ground.specs.Limits.{legal_count, legal_cost}
 use Rattle.ground.specs.Refusal.{accepted, ◌gives◌, answer_base}
 use Rattle.ground.proofs.Refusal.{gives_below, otherwise_below}
@@ -28,7 +26,6 @@ use Rattle.frames.specs.Meter.{enters, moves, drops}
 use Rattle.frames.specs.MeterTable.{fresh_meter_table}
 use Rattle.lines.specs.declared.Command.{Command}
 use Rattle.lines.specs.declared.Command.TheVariants.{Units, Up, Cost, Down, Deliver, Show, Enter, Move, Drop, Page, Bad}
-use Rattle.lines.specs.contracts.Command.{the_type}
 use Rattle.slices.specs.Putting.{used_after, put_after}
 use Rattle.slices.proofs.Putting.{Put, put_as}
 use Rattle.script.specs.Acting.{bad_number, act_number, said_of, meter_begun, act_meter, frame_number, frame_meter, fate_said}
@@ -212,35 +209,38 @@ begun_afresh words bytes meter n e high is =
 
 -- A command that is no call of the network, and one that is no call of the meter.
 pub not_acted : (words bytes meter : List ℕ) (command : Command)
-    → OneOf (5 ∷ 6 ∷ 7 ∷ 8 ∷ 9 ∷ 10 ∷ []) (tag_of the_type command)
+    → ((n : ℕ) → command ≢ Units n) → ((a b ca cb : ℕ) → command ≢ Up a b ca cb)
+    → ((a b c : ℕ) → command ≢ Cost a b c) → ((a b : ℕ) → command ≢ Down a b)
+    → ((a b : ℕ) → command ≢ Deliver a b)
     → (bad_number ≡ act_number words bytes command)
     × ((words ≡ words_then words bytes command)
     × ((bytes ≡ bytes_then words bytes command) × (meter ≡ act_meter words bytes meter command)))
 unfolding words_then bytes_then act_meter
-not_acted words bytes meter (Units n) one = absurd (miss (5 ∷ 6 ∷ 7 ∷ 8 ∷ 9 ∷ 10 ∷ []) 0 tt one)
-not_acted words bytes meter (Up a b ca cb) one = absurd (miss (5 ∷ 6 ∷ 7 ∷ 8 ∷ 9 ∷ 10 ∷ []) 1 tt one)
-not_acted words bytes meter (Cost a b c) one = absurd (miss (5 ∷ 6 ∷ 7 ∷ 8 ∷ 9 ∷ 10 ∷ []) 2 tt one)
-not_acted words bytes meter (Down a b) one = absurd (miss (5 ∷ 6 ∷ 7 ∷ 8 ∷ 9 ∷ 10 ∷ []) 3 tt one)
-not_acted words bytes meter (Deliver a b) one = absurd (miss (5 ∷ 6 ∷ 7 ∷ 8 ∷ 9 ∷ 10 ∷ []) 4 tt one)
-not_acted words bytes meter Show one = (refl, (refl, (refl, refl)))
-not_acted words bytes meter (Enter size unit destination) one = (refl, (refl, (refl, refl)))
-not_acted words bytes meter (Move place unit) one = (refl, (refl, (refl, refl)))
-not_acted words bytes meter (Drop place) one = (refl, (refl, (refl, refl)))
-not_acted words bytes meter Page one = (refl, (refl, (refl, refl)))
-not_acted words bytes meter Bad one = (refl, (refl, (refl, refl)))
+not_acted words bytes meter (Units n) u p c d e = absurd (u n refl)
+not_acted words bytes meter (Up a b ca cb) u p c d e = absurd (p a b ca cb refl)
+not_acted words bytes meter (Cost a b k) u p c d e = absurd (c a b k refl)
+not_acted words bytes meter (Down a b) u p c d e = absurd (d a b refl)
+not_acted words bytes meter (Deliver a b) u p c d e = absurd (e a b refl)
+not_acted words bytes meter Show u p c d e = (refl, (refl, (refl, refl)))
+not_acted words bytes meter (Enter size unit destination) u p c d e = (refl, (refl, (refl, refl)))
+not_acted words bytes meter (Move place unit) u p c d e = (refl, (refl, (refl, refl)))
+not_acted words bytes meter (Drop place) u p c d e = (refl, (refl, (refl, refl)))
+not_acted words bytes meter Page u p c d e = (refl, (refl, (refl, refl)))
+not_acted words bytes meter Bad u p c d e = (refl, (refl, (refl, refl)))
 
 pub not_framed : (words bytes meter : List ℕ) (command : Command)
-    → OneOf (0 ∷ 1 ∷ 2 ∷ 3 ∷ 4 ∷ 5 ∷ 9 ∷ 10 ∷ []) (tag_of the_type command)
+    → ((size unit destination : ℕ) → command ≢ Enter size unit destination)
+    → ((place unit : ℕ) → command ≢ Move place unit) → ((place : ℕ) → command ≢ Drop place)
     → (0 ≡ frame_number words bytes meter command) × (meter ≡ frame_meter words bytes meter command)
 unfolding frame_number frame_meter
-not_framed words bytes meter (Units n) one = (refl, refl)
-not_framed words bytes meter (Up a b ca cb) one = (refl, refl)
-not_framed words bytes meter (Cost a b c) one = (refl, refl)
-not_framed words bytes meter (Down a b) one = (refl, refl)
-not_framed words bytes meter (Deliver a b) one = (refl, refl)
-not_framed words bytes meter Show one = (refl, refl)
-not_framed words bytes meter (Enter size unit destination) one = absurd (miss (0 ∷ 1 ∷ 2 ∷ 3 ∷ 4 ∷ 5 ∷ 9 ∷ 10 ∷ []) 6 tt one)
-not_framed words bytes meter (Move place unit) one = absurd (miss (0 ∷ 1 ∷ 2 ∷ 3 ∷ 4 ∷ 5 ∷ 9 ∷ 10 ∷ []) 7 tt one)
-not_framed words bytes meter (Drop place) one = absurd (miss (0 ∷ 1 ∷ 2 ∷ 3 ∷ 4 ∷ 5 ∷ 9 ∷ 10 ∷ []) 8 tt one)
-not_framed words bytes meter Page one = (refl, refl)
-not_framed words bytes meter Bad one = (refl, refl)
+not_framed words bytes meter (Units n) e m d = (refl, refl)
+not_framed words bytes meter (Up a b ca cb) e m d = (refl, refl)
+not_framed words bytes meter (Cost a b c) e m d = (refl, refl)
+not_framed words bytes meter (Down a b) e m d = (refl, refl)
+not_framed words bytes meter (Deliver a b) e m d = (refl, refl)
+not_framed words bytes meter Show e m d = (refl, refl)
+not_framed words bytes meter (Enter size unit destination) e m d = absurd (e size unit destination refl)
+not_framed words bytes meter (Move place unit) e m d = absurd (m place unit refl)
+not_framed words bytes meter (Drop place) e m d = absurd (d place refl)
+not_framed words bytes meter Page e m d = (refl, refl)
+not_framed words bytes meter Bad e m d = (refl, refl)

@@ -14,7 +14,7 @@ headers := $(wildcard include/*.h include/puntclover/*.h)
 version := $(shell sed -n 's/^\#define PUNTCLOVER_VERSION "\(.*\)"$$/\1/p' include/puntclover/version.h)
 
 # The crates that the border is made of. Each crate stands below those that it names, so one pass from the end finds all.
-crates := $(shell tac crates.txt | awk -F '[: ]+' 'BEGIN { used["border"] = 1 } \
+crates := $(shell tac crates.txt | awk -F '[: ]+' 'BEGIN { used["border_c"] = 1 } \
   !/^\#/ && used[$$1] { print $$1; for (place = 2; place <= NF; place++) used[$$place] = 1 }')
 sources := crates.txt $(foreach crate,$(crates),$(shell find crates/$(crate)/src crates/$(crate)/specs crates/$(crate)/proofs \
   -type f 2>/dev/null))
@@ -37,8 +37,9 @@ all: $(archive)
 
 # The archive is newer than its sources only when all of it is there.
 $(archive): $(sources)
-	rt staticlib border
-	cp target/staticlib/libborder.a $@.new
+	mkdir -p $(dir $@)
+	cd crates/border_c && rt lib
+	cp crates/border_c/out/libborder_c.a $@.new
 	mv $@.new $@
 
 install: $(archive)

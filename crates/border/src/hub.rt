@@ -16,8 +16,7 @@ use unit::calls::Call;
 // The bytes of a unit's table.
 const TABLE_BYTES: usize = 4 * UNIT_WORDS;
 
-#[unsafe(no_mangle)]
-pub extern "C" fn puntclover_hub_fresh(count: u32, me: u32, table: &mut [u8]) -> u32
+pub fn puntclover_hub_fresh(count: u32, me: u32, table: &mut [u8]) -> u32
     ensures answer { result ≡ border_fresh_answer table.old count me }
     ensures table { table.new ≡ border_fresh_table table.old count me }
 {
@@ -53,8 +52,7 @@ fn answer(table: &mut [u8], call: Call, bytes: &[u8], out: &mut [u8]) -> u32
     answer
 }
 
-#[unsafe(no_mangle)]
-pub extern "C" fn puntclover_hub_up(table: &mut [u8], to: u32, cost: u32, out: &mut [u8]) -> u32
+pub fn puntclover_hub_up(table: &mut [u8], to: u32, cost: u32, out: &mut [u8]) -> u32
     ensures answer { result ≡ border_answer table.old (length out.old) (hub_up to cost) }
     ensures table { table.new ≡ border_table table.old (length out.old) (hub_up to cost) }
     ensures sent { out.new ≡ border_buffer table.old out.old (hub_up to cost) }
@@ -63,8 +61,7 @@ pub extern "C" fn puntclover_hub_up(table: &mut [u8], to: u32, cost: u32, out: &
     answer(table, Call::Up { to, cost }, &none, out)
 }
 
-#[unsafe(no_mangle)]
-pub extern "C" fn puntclover_hub_cost(table: &mut [u8], to: u32, cost: u32, out: &mut [u8]) -> u32
+pub fn puntclover_hub_cost(table: &mut [u8], to: u32, cost: u32, out: &mut [u8]) -> u32
     ensures answer { result ≡ border_answer table.old (length out.old) (hub_cost to cost) }
     ensures table { table.new ≡ border_table table.old (length out.old) (hub_cost to cost) }
     ensures sent { out.new ≡ border_buffer table.old out.old (hub_cost to cost) }
@@ -73,8 +70,7 @@ pub extern "C" fn puntclover_hub_cost(table: &mut [u8], to: u32, cost: u32, out:
     answer(table, Call::Cost { to, cost }, &none, out)
 }
 
-#[unsafe(no_mangle)]
-pub extern "C" fn puntclover_hub_down(table: &mut [u8], to: u32, out: &mut [u8]) -> u32
+pub fn puntclover_hub_down(table: &mut [u8], to: u32, out: &mut [u8]) -> u32
     ensures answer { result ≡ border_answer table.old (length out.old) (hub_down to) }
     ensures table { table.new ≡ border_table table.old (length out.old) (hub_down to) }
     ensures sent { out.new ≡ border_buffer table.old out.old (hub_down to) }
@@ -83,13 +79,7 @@ pub extern "C" fn puntclover_hub_down(table: &mut [u8], to: u32, out: &mut [u8])
     answer(table, Call::Down { to }, &none, out)
 }
 
-#[unsafe(no_mangle)]
-pub extern "C" fn puntclover_hub_message(
-    table: &mut [u8],
-    from: u32,
-    bytes: &[u8],
-    out: &mut [u8],
-) -> u32
+pub fn puntclover_hub_message(table: &mut [u8], from: u32, bytes: &[u8], out: &mut [u8]) -> u32
     ensures answer { result ≡ border_answer table.old (length out.old) (hub_message from bytes.now) }
     ensures table { table.new ≡ border_table table.old (length out.old) (hub_message from bytes.now) }
     ensures sent { out.new ≡ border_buffer table.old out.old (hub_message from bytes.now) }
@@ -97,8 +87,7 @@ pub extern "C" fn puntclover_hub_message(
     answer(table, Call::Message { from }, bytes, out)
 }
 
-#[unsafe(no_mangle)]
-pub extern "C" fn puntclover_hub_state(table: &[u8]) -> u32
+pub fn puntclover_hub_state(table: &[u8]) -> u32
     ensures { result ≡ border_state table.now }
 {
     if table.len() != TABLE_BYTES {
@@ -121,38 +110,33 @@ fn ask(table: &[u8], question: Question, to: u32) -> u32
     questions::ask(&numbers, question, to)
 }
 
-#[unsafe(no_mangle)]
-pub extern "C" fn puntclover_hub_distance(table: &[u8], to: u32) -> u32
+pub fn puntclover_hub_distance(table: &[u8], to: u32) -> u32
     ensures { result ≡ border_distance table.now to }
 {
     ask(table, Question::Distance, to)
 }
 
-#[unsafe(no_mangle)]
-pub extern "C" fn puntclover_hub_feasible(table: &[u8], to: u32) -> u32
+pub fn puntclover_hub_feasible(table: &[u8], to: u32) -> u32
     ensures { result ≡ border_feasible table.now to }
 {
     ask(table, Question::Feasible, to)
 }
 
-#[unsafe(no_mangle)]
-pub extern "C" fn puntclover_hub_successors(table: &[u8], to: u32) -> u32
+pub fn puntclover_hub_successors(table: &[u8], to: u32) -> u32
     ensures { result ≡ border_successors table.now to }
 {
     ask(table, Question::Successors, to)
 }
 
 // The cost of the link to a neighbour, 0 where it is down.
-#[unsafe(no_mangle)]
-pub extern "C" fn puntclover_hub_link(table: &[u8], to: u32) -> u32
+pub fn puntclover_hub_link(table: &[u8], to: u32) -> u32
     ensures { result ≡ border_link table.now to }
 {
     ask(table, Question::Link, to)
 }
 
 // Whether a neighbour's acknowledgment is awaited: 101, else 100.
-#[unsafe(no_mangle)]
-pub extern "C" fn puntclover_hub_awaits(table: &[u8], to: u32) -> u32
+pub fn puntclover_hub_awaits(table: &[u8], to: u32) -> u32
     ensures { result ≡ border_awaits table.now to }
 {
     ask(table, Question::Awaits, to)

@@ -6,7 +6,8 @@
 // a meter over a network.
 //
 // An answer below 100 is a refusal, which leaves all that was lent as it came; any other answer is 100 plus the value, or the
-// largest number for unreachable. Every exported name begins with `puntclover_`; include/puntclover/ has the headers.
+// largest number for unreachable. Every name begins with `puntclover_`: the crate `border_c` exports them for C, and
+// include/puntclover/ has the headers.
 #![tactic(auto)]
 
 pub mod hub;

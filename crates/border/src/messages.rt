@@ -19,8 +19,7 @@ const FIELD_BYTES: usize = 4 * FIELDS;
 
 // Takes exactly one message of a network of `count` units from the bytes and lays its fields at the start of `fields`;
 // answers 100 plus the number of entries.
-#[unsafe(no_mangle)]
-pub extern "C" fn puntclover_message_read(count: u32, bytes: &[u8], fields: &mut [u8]) -> u32
+pub fn puntclover_message_read(count: u32, bytes: &[u8], fields: &mut [u8]) -> u32
     ensures answer { result ≡ read_answer count bytes.now (length fields.old / 4) }
     ensures fields { fields.new ≡ border_fields count bytes.now fields.old }
 {
@@ -65,8 +64,7 @@ fn changes_in(bytes: &[u8], entries: usize) -> [u32; ENTRIES]
 
 // Lays the message with these fields into the frame from `offset` on; answers 100 plus its length. The bytes before and after
 // it stay.
-#[unsafe(no_mangle)]
-pub extern "C" fn puntclover_message_write(
+pub fn puntclover_message_write(
     count: u32,
     kind: u32,
     sender: u32,

@@ -24,8 +24,7 @@ enum FrameCall {
     Drop(u32),
 }
 
-#[unsafe(no_mangle)]
-pub extern "C" fn puntclover_meter_fresh(meter: &mut [u8]) -> u32
+pub fn puntclover_meter_fresh(meter: &mut [u8]) -> u32
     ensures answer { result ≡ hub_answer (border_fresh_meter_refusal meter.old) 0 }
     ensures meter { meter.new ≡ fresh_meter_bytes meter.old }
 {
@@ -78,8 +77,7 @@ fn answer(units: &[u8], queues: &[u8], meter: &mut [u8], call: FrameCall) -> u32
 }
 
 // A frame enters at a unit: 100 plus its place, or 200 where that is its destination.
-#[unsafe(no_mangle)]
-pub extern "C" fn puntclover_meter_enter(
+pub fn puntclover_meter_enter(
     units: &[u8],
     queues: &[u8],
     meter: &mut [u8],
@@ -99,8 +97,7 @@ pub extern "C" fn puntclover_meter_enter(
 }
 
 // A frame moves one hop to a successor: 100 plus its place, 200 at its destination, 300 elsewhere at its 64th hop.
-#[unsafe(no_mangle)]
-pub extern "C" fn puntclover_meter_move(
+pub fn puntclover_meter_move(
     units: &[u8],
     queues: &[u8],
     meter: &mut [u8],
@@ -114,13 +111,7 @@ pub extern "C" fn puntclover_meter_move(
 }
 
 // A frame is dropped: 300.
-#[unsafe(no_mangle)]
-pub extern "C" fn puntclover_meter_drop(
-    units: &[u8],
-    queues: &[u8],
-    meter: &mut [u8],
-    frame: u32,
-) -> u32
+pub fn puntclover_meter_drop(units: &[u8], queues: &[u8], meter: &mut [u8], frame: u32) -> u32
     ensures answer { result ≡ border_meter_call units.now queues.now meter.old (drops frame) }
     ensures meter { meter.new ≡ border_meter units.now queues.now meter.old (drops frame) }
 {
@@ -144,37 +135,32 @@ fn ask_figure(units: &[u8], queues: &[u8], meter: &[u8], which: Figure) -> u64
     questions::ask_figure(&numbers, queues, &table, which)
 }
 
-#[unsafe(no_mangle)]
-pub extern "C" fn puntclover_meter_entered(units: &[u8], queues: &[u8], meter: &[u8]) -> u64
+pub fn puntclover_meter_entered(units: &[u8], queues: &[u8], meter: &[u8]) -> u64
     ensures { result ≡ asked_of_meter units.now meter.now (λ words table. entered_answer words queues.now table) }
 {
     ask_figure(units, queues, meter, Figure::Entered)
 }
 
-#[unsafe(no_mangle)]
-pub extern "C" fn puntclover_meter_delivered(units: &[u8], queues: &[u8], meter: &[u8]) -> u64
+pub fn puntclover_meter_delivered(units: &[u8], queues: &[u8], meter: &[u8]) -> u64
     ensures { result ≡ asked_of_meter units.now meter.now (λ words table. delivered_answer words queues.now table) }
 {
     ask_figure(units, queues, meter, Figure::Delivered)
 }
 
-#[unsafe(no_mangle)]
-pub extern "C" fn puntclover_meter_dropped(units: &[u8], queues: &[u8], meter: &[u8]) -> u64
+pub fn puntclover_meter_dropped(units: &[u8], queues: &[u8], meter: &[u8]) -> u64
     ensures { result ≡ asked_of_meter units.now meter.now (λ words table. dropped_answer words queues.now table) }
 {
     ask_figure(units, queues, meter, Figure::Dropped)
 }
 
-#[unsafe(no_mangle)]
-pub extern "C" fn puntclover_meter_held(units: &[u8], queues: &[u8], meter: &[u8]) -> u64
+pub fn puntclover_meter_held(units: &[u8], queues: &[u8], meter: &[u8]) -> u64
     ensures { result ≡ asked_of_meter units.now meter.now (λ words table. held_answer words queues.now table) }
 {
     ask_figure(units, queues, meter, Figure::Held)
 }
 
 // The number of frames held.
-#[unsafe(no_mangle)]
-pub extern "C" fn puntclover_meter_frames(units: &[u8], queues: &[u8], meter: &[u8]) -> u64
+pub fn puntclover_meter_frames(units: &[u8], queues: &[u8], meter: &[u8]) -> u64
     ensures { result ≡ asked_of_meter units.now meter.now (λ words table. frames_answer words queues.now table) }
 {
     ask_figure(units, queues, meter, Figure::Frames)
@@ -197,32 +183,19 @@ fn ask_field(units: &[u8], queues: &[u8], meter: &[u8], frame: u32, which: Field
     questions::ask_field(&numbers, queues, &table, frame, which)
 }
 
-#[unsafe(no_mangle)]
-pub extern "C" fn puntclover_meter_frame_size(
-    units: &[u8],
-    queues: &[u8],
-    meter: &[u8],
-    frame: u32,
-) -> u32
+pub fn puntclover_meter_frame_size(units: &[u8], queues: &[u8], meter: &[u8], frame: u32) -> u32
     ensures { result ≡ asked_of_meter units.now meter.now (λ words table. size_answer words queues.now table frame) }
 {
     ask_field(units, queues, meter, frame, Field::Size)
 }
 
-#[unsafe(no_mangle)]
-pub extern "C" fn puntclover_meter_frame_unit(
-    units: &[u8],
-    queues: &[u8],
-    meter: &[u8],
-    frame: u32,
-) -> u32
+pub fn puntclover_meter_frame_unit(units: &[u8], queues: &[u8], meter: &[u8], frame: u32) -> u32
     ensures { result ≡ asked_of_meter units.now meter.now (λ words table. unit_answer words queues.now table frame) }
 {
     ask_field(units, queues, meter, frame, Field::Unit)
 }
 
-#[unsafe(no_mangle)]
-pub extern "C" fn puntclover_meter_frame_destination(
+pub fn puntclover_meter_frame_destination(
     units: &[u8],
     queues: &[u8],
     meter: &[u8],
@@ -233,13 +206,7 @@ pub extern "C" fn puntclover_meter_frame_destination(
     ask_field(units, queues, meter, frame, Field::Destination)
 }
 
-#[unsafe(no_mangle)]
-pub extern "C" fn puntclover_meter_frame_hops(
-    units: &[u8],
-    queues: &[u8],
-    meter: &[u8],
-    frame: u32,
-) -> u32
+pub fn puntclover_meter_frame_hops(units: &[u8], queues: &[u8], meter: &[u8], frame: u32) -> u32
     ensures { result ≡ asked_of_meter units.now meter.now (λ words table. hops_answer words queues.now table frame) }
 {
     ask_field(units, queues, meter, frame, Field::Hops)

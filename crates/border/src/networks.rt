@@ -24,8 +24,7 @@ enum NetworkCall {
     Deliver(u32, u32),
 }
 
-#[unsafe(no_mangle)]
-pub extern "C" fn puntclover_network_fresh(count: u32, units: &mut [u8], queues: &mut [u8]) -> u32
+pub fn puntclover_network_fresh(count: u32, units: &mut [u8], queues: &mut [u8]) -> u32
     ensures answer { result ≡ hub_answer (border_fresh_refusal units.old queues.old count) 0 }
     ensures units { units.new ≡ fresh_units_bytes units.old queues.old count }
     ensures queues { queues.new ≡ fresh_queues_bytes units.old queues.old count }
@@ -78,8 +77,7 @@ fn answer(units: &mut [u8], queues: &mut [u8], call: NetworkCall) -> u32
     answer
 }
 
-#[unsafe(no_mangle)]
-pub extern "C" fn puntclover_network_up(
+pub fn puntclover_network_up(
     units: &mut [u8],
     queues: &mut [u8],
     a: u32,
@@ -94,8 +92,7 @@ pub extern "C" fn puntclover_network_up(
     answer(units, queues, NetworkCall::Up(a, b, cost_of_a, cost_of_b))
 }
 
-#[unsafe(no_mangle)]
-pub extern "C" fn puntclover_network_cost(
+pub fn puntclover_network_cost(
     units: &mut [u8],
     queues: &mut [u8],
     a: u32,
@@ -109,13 +106,7 @@ pub extern "C" fn puntclover_network_cost(
     answer(units, queues, NetworkCall::Cost(a, b, new_cost))
 }
 
-#[unsafe(no_mangle)]
-pub extern "C" fn puntclover_network_down(
-    units: &mut [u8],
-    queues: &mut [u8],
-    a: u32,
-    b: u32,
-) -> u32
+pub fn puntclover_network_down(units: &mut [u8], queues: &mut [u8], a: u32, b: u32) -> u32
     ensures answer { result ≡ border_call units.old queues.old (down a b) }
     ensures units { units.new ≡ border_units units.old queues.old (down a b) }
     ensures queues { queues.new ≡ border_queues units.old queues.old (down a b) }
@@ -123,13 +114,7 @@ pub extern "C" fn puntclover_network_down(
     answer(units, queues, NetworkCall::Down(a, b))
 }
 
-#[unsafe(no_mangle)]
-pub extern "C" fn puntclover_network_deliver(
-    units: &mut [u8],
-    queues: &mut [u8],
-    a: u32,
-    b: u32,
-) -> u32
+pub fn puntclover_network_deliver(units: &mut [u8], queues: &mut [u8], a: u32, b: u32) -> u32
     ensures answer { result ≡ border_call units.old queues.old (deliver a b) }
     ensures units { units.new ≡ border_units units.old queues.old (deliver a b) }
     ensures queues { queues.new ≡ border_queues units.old queues.old (deliver a b) }
@@ -137,8 +122,7 @@ pub extern "C" fn puntclover_network_deliver(
     answer(units, queues, NetworkCall::Deliver(a, b))
 }
 
-#[unsafe(no_mangle)]
-pub extern "C" fn puntclover_network_state(units: &[u8], queues: &[u8], i: u32) -> u32
+pub fn puntclover_network_state(units: &[u8], queues: &[u8], i: u32) -> u32
     ensures { result ≡ asked_of_units units.now (λ words. state_answer words queues.now i) }
 {
     if units.len() != UNITS_BYTES {
@@ -161,46 +145,40 @@ fn ask(units: &[u8], queues: &[u8], i: u32, j: u32, question: Question) -> u32
     asking::asked(&numbers, queues, i, j, question)
 }
 
-#[unsafe(no_mangle)]
-pub extern "C" fn puntclover_network_distance(units: &[u8], queues: &[u8], i: u32, j: u32) -> u32
+pub fn puntclover_network_distance(units: &[u8], queues: &[u8], i: u32, j: u32) -> u32
     ensures { result ≡ asked_of_units units.now (λ words. distance_between words queues.now i j) }
 {
     ask(units, queues, i, j, Question::Distance)
 }
 
-#[unsafe(no_mangle)]
-pub extern "C" fn puntclover_network_feasible(units: &[u8], queues: &[u8], i: u32, j: u32) -> u32
+pub fn puntclover_network_feasible(units: &[u8], queues: &[u8], i: u32, j: u32) -> u32
     ensures { result ≡ asked_of_units units.now (λ words. feasible_between words queues.now i j) }
 {
     ask(units, queues, i, j, Question::Feasible)
 }
 
-#[unsafe(no_mangle)]
-pub extern "C" fn puntclover_network_successors(units: &[u8], queues: &[u8], i: u32, j: u32) -> u32
+pub fn puntclover_network_successors(units: &[u8], queues: &[u8], i: u32, j: u32) -> u32
     ensures { result ≡ asked_of_units units.now (λ words. successors_between words queues.now i j) }
 {
     ask(units, queues, i, j, Question::Successors)
 }
 
 // The cost of the link from i to j, 0 where it is down.
-#[unsafe(no_mangle)]
-pub extern "C" fn puntclover_network_link(units: &[u8], queues: &[u8], i: u32, j: u32) -> u32
+pub fn puntclover_network_link(units: &[u8], queues: &[u8], i: u32, j: u32) -> u32
     ensures { result ≡ asked_of_units units.now (λ words. link_between words queues.now i j) }
 {
     ask(units, queues, i, j, Question::Link)
 }
 
 // Whether unit i awaits the acknowledgment of unit j: 101, else 100.
-#[unsafe(no_mangle)]
-pub extern "C" fn puntclover_network_awaits(units: &[u8], queues: &[u8], i: u32, j: u32) -> u32
+pub fn puntclover_network_awaits(units: &[u8], queues: &[u8], i: u32, j: u32) -> u32
     ensures { result ≡ asked_of_units units.now (λ words. awaits_between words queues.now i j) }
 {
     ask(units, queues, i, j, Question::Awaits)
 }
 
 // Follows successors, and lays the units met into the path.
-#[unsafe(no_mangle)]
-pub extern "C" fn puntclover_network_trace(
+pub fn puntclover_network_trace(
     units: &[u8],
     queues: &[u8],
     start: u32,

@@ -258,9 +258,9 @@ class Building(unittest.TestCase):
                    env={'PATH': self.folder + ':' + os.environ['PATH']})
 
     def test_progress(self):
-        done = self.run_with('echo "rt: one proved (3 s)"; echo "fn two::f: proved"; echo "rt: two proved (unchanged)"\n'
-                             'echo "rt: puntclover proved (1 s)"; mkdir -p target/bin\n'
-                             'cp "$(command -v cat)" target/bin/puntclover\n')
+        done = self.run_with('echo "logic=proved functions=3"; echo "fn two::f: proved"; echo "logic=proved functions=1"\n'
+                             'echo "logic=proved functions=1"; mkdir -p out\n'
+                             'cp "$(command -v cat)" out/puntclover\n')
         self.assertEqual((done.returncode, done.stdout), (0, b'a line\n'))
         told = done.stderr.decode().splitlines()
         self.assertIn(os.path.join(self.folder, 'target', 'puntclover.log'), told[0])
@@ -270,7 +270,7 @@ class Building(unittest.TestCase):
         self.assertEqual(run(script=b'more', program=os.path.join(self.folder, 'puntclover')).stderr, b'')
 
     def test_failed_build(self):
-        done = self.run_with('echo "rt: one proved (3 s)"; echo "two is wrong"; exit 1\n')
+        done = self.run_with('echo "logic=proved functions=3"; echo "two is wrong"; exit 1\n')
         self.assertEqual((done.returncode, done.stdout), (1, b''))
         self.assertIn(b'two is wrong', done.stderr)
         self.assertIn(b'target/puntclover.log', done.stderr.splitlines()[-1])

@@ -9,9 +9,6 @@ heard_answer_changes facts = (facts.answer, facts.changes)
 pub told_answer_fields : {A B : Type 0} → A × B → record { answer : A; fields : B }
 told_answer_fields facts = record { answer = facts.0; fields = facts.1 }
 
-pub heard_answer_fields : {A B : Type 0} → record { answer : A; fields : B } → A × B
-heard_answer_fields facts = (facts.answer, facts.fields)
-
 pub told_answer_frame : {A B : Type 0} → A × B → record { answer : A; frame : B }
 told_answer_frame facts = record { answer = facts.0; frame = facts.1 }
 
@@ -20,9 +17,6 @@ heard_answer_frame facts = (facts.answer, facts.frame)
 
 pub told_answer_laid : {A B : Type 0} → A × B → record { answer : A; laid : B }
 told_answer_laid facts = record { answer = facts.0; laid = facts.1 }
-
-pub heard_answer_laid : {A B : Type 0} → record { answer : A; laid : B } → A × B
-heard_answer_laid facts = (facts.answer, facts.laid)
 
 pub told_answer_meter : {A B : Type 0} → A × B → record { answer : A; meter : B }
 told_answer_meter facts = record { answer = facts.0; meter = facts.1 }
@@ -39,35 +33,11 @@ heard_answer_out facts = (facts.answer, facts.out)
 pub told_answer_path : {A B : Type 0} → A × B → record { answer : A; path : B }
 told_answer_path facts = record { answer = facts.0; path = facts.1 }
 
-pub heard_answer_path : {A B : Type 0} → record { answer : A; path : B } → A × B
-heard_answer_path facts = (facts.answer, facts.path)
-
 pub told_answer_table : {A B : Type 0} → A × B → record { answer : A; table : B }
 told_answer_table facts = record { answer = facts.0; table = facts.1 }
 
 pub heard_answer_table : {A B : Type 0} → record { answer : A; table : B } → A × B
 heard_answer_table facts = (facts.answer, facts.table)
-
-pub told_end_inside : {A B : Type 0} → A × B → record { end : A; inside : B }
-told_end_inside facts = record { end = facts.0; inside = facts.1 }
-
-pub heard_end_inside : {A B : Type 0} → record { end : A; inside : B } → A × B
-heard_end_inside facts = (facts.end, facts.inside)
-
-pub told_reacted_sent : {A B : Type 0} → A × B → record { reacted : A; sent : B }
-told_reacted_sent facts = record { reacted = facts.0; sent = facts.1 }
-
-pub heard_reacted_sent : {A B : Type 0} → record { reacted : A; sent : B } → A × B
-heard_reacted_sent facts = (facts.reacted, facts.sent)
-
-pub told_same_further : {A B : Type 0} → A × B → record { same : A; further : B }
-told_same_further facts = record { same = facts.0; further = facts.1 }
-
-pub heard_same_further : {A B : Type 0} → record { same : A; further : B } → A × B
-heard_same_further facts = (facts.same, facts.further)
-
-pub told_words_queues : {A B : Type 0} → A × B → record { words : A; queues : B }
-told_words_queues facts = record { words = facts.0; queues = facts.1 }
 
 pub heard_words_queues : {A B : Type 0} → record { words : A; queues : B } → A × B
 heard_words_queues facts = (facts.words, facts.queues)
@@ -86,9 +56,6 @@ heard_answer_table_sent facts = (facts.answer, (facts.table, facts.sent))
 
 pub told_answer_units_queues : {A B C : Type 0} → A × (B × C) → record { answer : A; units : B; queues : C }
 told_answer_units_queues facts = record { answer = facts.0; units = facts.1.0; queues = facts.1.1 }
-
-pub heard_answer_units_queues : {A B C : Type 0} → record { answer : A; units : B; queues : C } → A × (B × C)
-heard_answer_units_queues facts = (facts.answer, (facts.units, facts.queues))
 
 pub told_answer_words_queues : {A B C : Type 0} → A × (B × C) → record { answer : A; words : B; queues : C }
 told_answer_words_queues facts = record { answer = facts.0; words = facts.1.0; queues = facts.1.1 }

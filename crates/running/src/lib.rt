@@ -140,7 +140,16 @@ fn turn(
 {
     let filled = progress.filled;
     if progress.place < filled {
-        return feed_chunk(rt, words, queues, meter, line, &input[..filled], out, progress);
+        return feed_chunk(
+            rt,
+            words,
+            queues,
+            meter,
+            line,
+            &input[..filled],
+            out,
+            progress,
+        );
     }
     next_chunk(rt, input, progress.held)
 }

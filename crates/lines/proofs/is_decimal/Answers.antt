@@ -22,7 +22,7 @@ unfolding is_decimal
 returns c =
     simp (le-leb _ _ c.if-word-lt1.false, le-leb _ _ c.if-word-gt-DIGITS.false)
     (elim c.if-word-ne1.branch [
-      then-word-ne1+else-word-eq48 w ↦
+      | then-word-ne1+else-word-eq48 w ↦
           simp (ne_eqb _ _ w.if-word-ne1.true, ne_eqb _ _ w.if-word-eq48.false) c.are_digits.ensures
       | else-word-ne1 w ↦ simp (eq-eqb _ _ w.if-word-ne1.false) c.are_digits.ensures
     ])

@@ -54,7 +54,7 @@ returns c =
     simp
     (lt-ltb _ _ c.if-count-sender.false, le-leb _ _ c.if-kind-lt1.false, le-leb _ _ c.if-kind-gt3.false, few_enough _ _ c.if-count-changes.false)
     (elim c.if-kind-lt2.branch [
-      then-kind-lt2+else-changes-ne0 w ↦
+      | then-kind-lt2+else-changes-ne0 w ↦
           simp (lt-leb _ _ w.if-kind-lt2.true, eq-eqb _ _ w.if-changes-ne0.false) c.legal_changes.ensures
       | else-kind-lt2 w ↦ simp (le-leb _ _ w.if-kind-lt2.false) c.legal_changes.ensures
     ])

@@ -25,7 +25,7 @@ loop-i-preserved c =
     let low : at a.preferences i ≤ a.count = c.requires.2 i c.loop-i-test.true in (
       search rules,
       elim c.if-i-me.branch [
-        then-i-me w ↦
+        | then-i-me w ↦
             w.rows-is ∙ filling_rows unit_limit i row here.invariant.1
             (w.own_row.ensures
             ∙ ap (filled unit_limit) (taken_own a.count a.me a.costs flat a.preferences i (omega arith) w.if-i-me.true))

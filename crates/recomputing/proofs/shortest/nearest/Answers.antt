@@ -17,7 +17,7 @@ loop-j-preserved c =
     let inside = c.loop-j-test.true in
     let chosen = here.invariant.2 in
     elim c.if-not-settled-j.branch [
-      then-not-settled-j+then-best-count w ↦
+      | then-not-settled-j+then-best-count w ↦
           (search rules, omega arith, rw w.best-is (chosen_first chosen inside w.if-not-settled-j.true w.if-best-count.true))
       | then-not-settled-j+else-best-count+then-distances-j w ↦ (
         search rules,

@@ -18,7 +18,7 @@ loop-j-preserved c =
       search rules,
       filling unit_limit here.j _ here.invariant.1
           (elim c.if-offer-distances.branch [
-            then-offer-distances w ↦ omega (arith, offer)
+            | then-offer-distances w ↦ omega (arith, offer)
             | else-offer-distances w ↦ omega (arith, offer)
           ]) (omega arith),
     )

@@ -16,7 +16,7 @@ loop-done-preserved c =
     let here = c.loop-done in
     let nearest = c.nearest-i in
     elim c.if-i-count.branch [
-      then-i-count w ↦ (
+      | then-i-count w ↦ (
         search rules,
         rw (w.distances-is, w.settled-is, w.relax-lower.ensures)
             (turned_more here.invariant.1 nearest.ensures w.if-i-count.true c.requires.0 c.requires.1),

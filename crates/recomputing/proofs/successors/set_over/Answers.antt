@@ -39,7 +39,7 @@ loop-k-preserved c =
       omega arith,
       rw here.invariant.1 (twice here.k),
       elim c.if-through-k.branch [
-        then-through-k w ↦
+        | then-through-k w ↦
             w.set-is ∙ ap₂ ◌+◌ here.invariant.2 here.invariant.1 ∙ bits_in here.k below (lt-ltb _ _ w.if-through-k.true)
         | else-through-k w ↦ w.set-is ∙ here.invariant.2 ∙ bits_out here.k below (le-ltb _ _ w.if-through-k.false)
       ],

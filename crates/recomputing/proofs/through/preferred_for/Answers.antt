@@ -19,7 +19,7 @@ loop-k-preserved c =
     let sum = c.plus-sum.ensures in
     let scanned = here.invariant.2 in
     elim c.if-sum-nearest.branch [
-      then-sum-nearest w ↦ (search rules, omega arith, rw (w.nearest-is, w.best-is, sum) (scan_less scanned (omega arith)))
+      | then-sum-nearest w ↦ (search rules, omega arith, rw (w.nearest-is, w.best-is, sum) (scan_less scanned (omega arith)))
       | else-sum-nearest w ↦ (search rules, omega arith, rw (w.nearest-is, w.best-is) (scan_more scanned (omega arith)))
     ]
 

@@ -39,7 +39,7 @@ loop-k-preserved c =
     let long : length flat ≡ flat_length = c.if-copies-ne-COPIES.false in (
       search rules,
       elim c.if-costs-k-eq0.branch [
-        then-costs-k-eq0 w ↦
+        | then-costs-k-eq0 w ↦
             w.rows-is ∙ filling_rows unit_limit k _ here.invariant.1
             (w.far_row.ensures ∙ ap (filled unit_limit) (through_down a.count a.costs flat k w.if-costs-k-eq0.true))
             (omega arith)

@@ -36,7 +36,7 @@ loop-j-preserved c =
       omega arith,
       every_more here.j (feasible_test unit.me unit.feasible) here.invariant.1
           (elim c.if-j-me.branch [
-            then-j-me+else-feasible-j-ne0 w ↦ own_good unit.me unit.feasible here.j w.if-j-me.true w.if-feasible-j-ne0.false
+            | then-j-me+else-feasible-j-ne0 w ↦ own_good unit.me unit.feasible here.j w.if-j-me.true w.if-feasible-j-ne0.false
             | else-j-me+then-feasible-j+else-feasible-j-gt-LONGEST w ↦
                 other_short unit.me unit.feasible here.j w.if-j-me.false w.if-feasible-j-gt-LONGEST.false
             | else-j-me+else-feasible-j w ↦ other_far unit.me unit.feasible here.j w.if-j-me.false w.if-feasible-j.false

@@ -45,7 +45,7 @@ loop-i-preserved c =
     let keep = kept args.count args.table.now here.i here.numbers (omega arith) in (
       omega arith,
       elim c.if-i-count.branch [
-        then-i-count+then-i-count-2 w ↦ w.numbers-is ∙ store w.if-i-count.true w.if-i-count-2.true here.invariant.1
+        | then-i-count+then-i-count-2 w ↦ w.numbers-is ∙ store w.if-i-count.true w.if-i-count-2.true here.invariant.1
         | then-i-count+else-i-count-2 w ↦
             w.numbers-is
             ∙ keep (and_false (ltb (here.i / unit_limit) args.count) _ (le-ltb _ _ w.if-i-count-2.false)) here.invariant.1

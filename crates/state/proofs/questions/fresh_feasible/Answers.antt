@@ -18,7 +18,7 @@ loop-j-preserved c =
       search rules,
       filling unit_limit here.j (distance_to me) here.invariant.1
           (elim c.if-j-me.branch [
-            then-j-me w ↦ w.row-is ∙ sym (if_true _ _ _ (eq-eqb _ _ w.if-j-me.true))
+            | then-j-me w ↦ w.row-is ∙ sym (if_true _ _ _ (eq-eqb _ _ w.if-j-me.true))
             | else-j-me w ↦ w.row-is ∙ sym (if_false _ _ _ (ne_eqb _ _ w.if-j-me.false))
           ])
           (omega arith),

@@ -9,10 +9,10 @@ import unittest
 TOOL = os.path.join(os.path.dirname(os.path.realpath(__file__)), 'try-limits')
 
 FILES = {
-    'crates/ground/specs/Limits.antt': '-- At most 16.\nabbrev pub unitLimit : ℕ\nunitLimit = 16\nqueueRoom = 4\n',
+    'crates/ground/specs/Limits.antt': '-- At most 16.\nabbrev pub unit_limit : ℕ\nunit_limit = 16\nqueue_room = 4\n',
     'crates/ground/src/lib.rt': 'pub const UNITS: usize = 16;\npub const ENTRIES: usize = UNITS - 1;\npub const QUEUE_ROOM: usize = 4;\n',
     'second/src/limits.rs': 'pub const UNITS: usize = 16;\npub const QUEUE_ROOM: usize = 4;\n',
-    'crates/rules/proofs/Figures.antt': '-- Counts 1 and 17 refused.\n(map freshRefusal (1 ∷ 17 ∷ 2 ∷ 16 ∷ []) is [])\n',
+    'crates/rules/proofs/Figures.antt': '-- Counts 1 and 17 refused.\n(map fresh_refusal (1 ∷ 17 ∷ 2 ∷ 16 ∷ []) is [])\n',
     'target/stamp': 'of another limit\n',
 }
 
@@ -20,12 +20,11 @@ HELD = ''.join(list(FILES.values())[:4])
 
 # What rt says: one crate is proved, one has two errors, one depends on it.
 RT = '''#!/bin/sh
-[ "$*" = check ] && [ ! -e target ] || exit 2
+[ "$*" = 'all check' ] && [ ! -e target ] || exit 2
 cat crates/ground/specs/Limits.antt crates/ground/src/lib.rt second/src/limits.rs crates/rules/proofs/Figures.antt >"$SEEN"
-printf 'fn ground::add: proved\\nrt: ground proved (1 s)\\nfn tree::grow: proved\\n'
-printf '%s/crates/tree/proofs/Tree.antt:3:9: error: `grown`: no\\n' "$PWD"
-printf '%s/crates/tree/proofs/Tree.antt:4:9: error: `grown`: nor\\n' "$PWD"
-printf 'rt: tree NOT PROVED (exit 1, 2 s)\\nrt: rules NOT PROVED: its dependency tree is not proved\\n'
+printf '== ground\\nfn ground::add: proved\\n== tree\\nfn tree::grow: not proved\\n'
+printf './proofs/Tree.antt:3:9: error: `grown`: no\\n./proofs/Tree.antt:4:9: error: `grown`: nor\\n'
+printf '== summary\\nground: ok\\ntree: failed (1)\\nrules: not run, since tree failed\\n1 of 3 crates ok\\n'
 exit 1
 '''
 CARGO = '''#!/bin/sh
@@ -63,9 +62,9 @@ class TryLimits(unittest.TestCase):
     def tried(self, *arguments):
         """What rt met in the copy, after a trial that ends as the programs say."""
         self.assertEqual(self.run_tool(*arguments), (1, [
-            'ground              proved (1 s)',
+            'ground              proved',
             'tree                NOT PROVED: crates/tree/proofs/Tree.antt:3:9: error: `grown`: no',
-            'rules               NOT PROVED: its dependency tree is not proved',
+            'rules               NOT PROVED: tree failed',
             '1 of 3 crates proved',
             'second: 2 tests pass, 1 fail',
             '  three'], ''))
@@ -76,15 +75,15 @@ class TryLimits(unittest.TestCase):
             return file.read()
 
     def test_units(self):
-        changed = HELD.replace('unitLimit = 16', 'unitLimit = 24').replace('usize = 16', 'usize = 24')
+        changed = HELD.replace('unit_limit = 16', 'unit_limit = 24').replace('usize = 16', 'usize = 24')
         self.assertEqual(self.tried('units', '24'), changed.replace('(1 ∷ 17 ∷ 2 ∷ 16 ∷ [])', '(1 ∷ 25 ∷ 2 ∷ 24 ∷ [])'))
 
     def test_queue(self):
-        changed = HELD.replace('queueRoom = 4', 'queueRoom = 2').replace('usize = 4', 'usize = 2')
+        changed = HELD.replace('queue_room = 4', 'queue_room = 2').replace('usize = 4', 'usize = 2')
         self.assertEqual(self.tried('queue', '2'), changed)
 
     def test_all_proved(self):
-        self.program('rt', '#!/bin/sh\necho "rt: ground proved (1 s)"\n')
+        self.program('rt', '#!/bin/sh\nprintf "== summary\\nground: ok\\n"\n')
         status, lines, _ = self.run_tool('queue', '2')
         self.assertEqual((status, lines[1]), (0, '1 of 1 crates proved'))
 

@@ -42,9 +42,24 @@ fn stop() -> Progress
     }
 }
 
-// Tells on standard error what failed, and why. Where that can't be written either, nobody is left to be told.
+// The reason of an error without its number at the end.
+fn reason(text: &str) -> &str {
+    match text.split_once(" (os error ") {
+        Some((reason, _)) => reason,
+        None => text,
+    }
+}
+
+// Writes a line to standard error: what failed, a colon and the reason.
+fn write_error(rt: &HostRuntime, what: &str, error: io::Error) -> io::Result<()> {
+    let text = format!(in rt.alloc(); "{error}")?;
+    let told = reason(text.as_str());
+    eprintln!(rt; "{what}: {told}")
+}
+
+// Tells on standard error what failed, and why. Where that fails too, nobody is left to be told.
 fn tell(rt: &HostRuntime, what: &str, error: io::Error) {
-    match eprintln!(rt; "{what}: {error}") {
+    match write_error(rt, what, error) {
         Ok(()) => {}
         Err(_) => {}
     }

@@ -29,13 +29,12 @@ slice_bounds-received-end c =
     c.in-Message.is).long
 
 pub received-requires : goal.received-requires
-received-requires c =
-    (
-      c.requires.padded,
-      c.requires.below,
-      (taken _ c.args.bytes.now c.read-read.result c.requires.legal (heard_answer_changes c.read-read.ensures)
+received-requires c = (
+  c.requires.padded,
+  c.requires.below,
+  (taken _ c.args.bytes.now c.read-read.result c.requires.legal (heard_answer_changes c.read-read.ensures)
       c.in-Message.is).units,
-    )
+)
 
 pub returns : goal.returns
 returns c =
@@ -44,6 +43,6 @@ returns c =
     c.in-Message.is)
     c.received.ensures
     (elim c.if-kind-lt2.branch [
-      then-kind-lt2 w ↦ inl (w.if-kind-lt2.true, w.owed-is)
+      | then-kind-lt2 w ↦ inl (w.if-kind-lt2.true, w.owed-is)
       | else-kind-lt2 w ↦ inr (w.if-kind-lt2.false, w.owed-is)
     ])

@@ -63,7 +63,7 @@ returns-then-kind-lt2 c =
     (ap (λ (g : Held). g.costs) p.zeros)
     (waits_stored h kind k changes _ p c.requires.1
     (elim c.if-kind-eq1.branch [
-      then-kind-eq1 w ↦ inl (w.if-kind-eq1.true, w.awaited-is)
+      | then-kind-eq1 w ↦ inl (w.if-kind-eq1.true, w.awaited-is)
       | else-kind-eq1 w ↦ inr (w.if-kind-eq1.false, w.awaited-is)
     ]))
     (ap (λ (g : Held). g.copies) p.zeros
@@ -92,7 +92,7 @@ returns c =
     (ap (λ (g : Held). g.costs) p.zeros)
     (waits_stored h kind k changes _ p c.requires.1
     (elim c.if-kind-eq1.branch [
-      then-kind-eq1 w ↦ inl (w.if-kind-eq1.true, w.awaited-is)
+      | then-kind-eq1 w ↦ inl (w.if-kind-eq1.true, w.awaited-is)
       | else-kind-eq1 w ↦ inr (w.if-kind-eq1.false, w.awaited-is)
     ]))
     (c.with_copy.ensures

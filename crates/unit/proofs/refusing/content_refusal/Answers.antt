@@ -86,7 +86,7 @@ returns-then-changes_nothing c =
     c.in-Message.is in
     refused_idle args.unit args.from args.bytes.now c.requires.0 c.requires.1 message c.if-sender-from.false
     (elim c.if-kind-eq1.branch [
-      then-kind-eq1+else-awaited-from-eq0 w ↦ inl (w.if-kind-eq1.true, w.if-awaited-from-eq0.false)
+      | then-kind-eq1+else-awaited-from-eq0 w ↦ inl (w.if-kind-eq1.true, w.if-awaited-from-eq0.false)
       | else-kind-eq1 w ↦ inr w.if-kind-eq1.false
     ])
     c.copy_of-copy.ensures c.changes_nothing.ensures c.if-changes_nothing.true
@@ -122,7 +122,7 @@ slice_bounds-is_tree-end c =
     sym
     (after_length args.unit args.from args.bytes.now c.requires.0 c.requires.1 message c.if-sender-from.false
     (elim c.if-kind-eq1.branch [
-      then-kind-eq1+else-awaited-from-eq0 w ↦ inl (w.if-kind-eq1.true, w.if-awaited-from-eq0.false)
+      | then-kind-eq1+else-awaited-from-eq0 w ↦ inl (w.if-kind-eq1.true, w.if-awaited-from-eq0.false)
       | else-kind-eq1 w ↦ inr w.if-kind-eq1.false
     ])
     c.copy_of-copy.ensures c.changes_nothing.ensures c.if-changes_nothing.false c.applied-after.ensures)
@@ -135,7 +135,7 @@ returns-then-not-is_tree c =
     c.in-Message.is in
     refused_tree args.unit args.from args.bytes.now c.requires.0 c.requires.1 message c.if-sender-from.false
     (elim c.if-kind-eq1.branch [
-      then-kind-eq1+else-awaited-from-eq0 w ↦ inl (w.if-kind-eq1.true, w.if-awaited-from-eq0.false)
+      | then-kind-eq1+else-awaited-from-eq0 w ↦ inl (w.if-kind-eq1.true, w.if-awaited-from-eq0.false)
       | else-kind-eq1 w ↦ inr w.if-kind-eq1.false
     ])
     c.copy_of-copy.ensures c.changes_nothing.ensures c.if-changes_nothing.false c.applied-after.ensures c.is_tree.ensures
@@ -149,7 +149,7 @@ returns c =
     c.in-Message.is in
     refused_none args.unit args.from args.bytes.now c.requires.0 c.requires.1 message c.if-sender-from.false
     (elim c.if-kind-eq1.branch [
-      then-kind-eq1+else-awaited-from-eq0 w ↦ inl (w.if-kind-eq1.true, w.if-awaited-from-eq0.false)
+      | then-kind-eq1+else-awaited-from-eq0 w ↦ inl (w.if-kind-eq1.true, w.if-awaited-from-eq0.false)
       | else-kind-eq1 w ↦ inr w.if-kind-eq1.false
     ])
     c.copy_of-copy.ensures c.changes_nothing.ensures c.if-changes_nothing.false c.applied-after.ensures c.is_tree.ensures

@@ -9,7 +9,7 @@ use Rattle.unit.proofs.send.change.Goals.{then-entry-eq0, else-entry-eq0}
 pub overflow_add-result : goal.overflow_add-result
 overflow_add-result c =
     elim c.if-entry-eq0.branch [
-      then-entry-eq0 w ↦ omega (arith, w.body-is)
+      | then-entry-eq0 w ↦ omega (arith, w.body-is)
       | else-entry-eq0 w ↦ omega (arith, w.body-is)
     ]
 
@@ -17,6 +17,6 @@ pub returns : goal.returns
 returns c =
     ap (changeTo c.args.j)
     (elim c.if-entry-eq0.branch [
-      then-entry-eq0 w ↦ rw (eq-eqb _ _ w.if-entry-eq0.true) w.body-is
+      | then-entry-eq0 w ↦ rw (eq-eqb _ _ w.if-entry-eq0.true) w.body-is
       | else-entry-eq0 w ↦ rw (ne_eqb _ _ w.if-entry-eq0.false) w.body-is
     ])

@@ -30,7 +30,7 @@ loop-j-preserved c =
     let j = c.loop-j.j in
     let inv = c.loop-j.invariant in
     elim c.if-old-j.branch [
-      then-old-j w ↦ (
+      | then-old-j w ↦ (
         omega arith,
         rw (w.number-is, w.list-is)
             (listed_other j c.args.old c.args.new _ _ _ inv.1 w.if-old-j.true (omega arith) w.change.ensures),

@@ -25,8 +25,8 @@ overflow_add-result-in-Length c =
       arith,
       c.requires.fits c.if-kind-eq0.false,
       bytes_by
-      (answered_by _ _ _ _ c.args.changes.now c.args.out.now _ c.requires c.if-kind-eq0.false c.write.ensures.answer)
-      c.in-Length.is,
+          (answered_by _ _ _ _ c.args.changes.now c.args.out.now _ c.requires c.if-kind-eq0.false c.write.ensures.answer)
+          c.in-Length.is,
     )
 
 pub shape_of-out-in-Length : goal.shape_of-out-in-Length

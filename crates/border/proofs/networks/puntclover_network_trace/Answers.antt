@@ -16,5 +16,8 @@ returns c =
     let called = c.trace_number in
     let args = c.args in
     let taken = c.take_numbers.ensures in
-    let traced : List ℕ → ℕ = λ words. trace_number (trace_answer words args.queues.now args.start args.destination args.choices.now args.path.now) in record { answer = right_asked args.units.now traced c.if-units-ne-UNITS_BYTES.false taken called.ensures.answer; path = right_path args.units.now args.queues.now args.start args.destination args.choices.now args.path.now
-          c.if-units-ne-UNITS_BYTES.false taken called.ensures.path }
+    let traced : List ℕ → ℕ = λ words. trace_number (trace_answer words args.queues.now args.start args.destination args.choices.now args.path.now) in record {
+      answer = right_asked args.units.now traced c.if-units-ne-UNITS_BYTES.false taken called.ensures.answer;
+      path = right_path args.units.now args.queues.now args.start args.destination args.choices.now args.path.now
+          c.if-units-ne-UNITS_BYTES.false taken called.ensures.path;
+    }

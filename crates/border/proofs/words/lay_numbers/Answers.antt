@@ -24,8 +24,7 @@ bounds-bytes-i-in-loop-i-3 c = simp length-set (omega arith)
 
 pub loop-i-preserved : goal.loop-i-preserved
 loop-i-preserved c =
-    let here = c.loop-i in
-    (
+    let here = c.loop-i in (
       search rules,
       simp length-set here.invariant.1,
       rw here.invariant.2

@@ -12,8 +12,7 @@ loop-i-init c = (search rules, refl, refl)
 
 pub loop-i-preserved : goal.loop-i-preserved
 loop-i-preserved c =
-    let here = c.loop-i in
-    (
+    let here = c.loop-i in (
       search rules,
       simp length-set here.invariant.1,
       rw here.invariant.2

@@ -4,6 +4,14 @@ use Rattle.ground.proofs.Clauses.{told_answer_laid}
 use Rattle.unit.proofs.LaidMessages.{laid_none, numbered_long, answered_by, bytes_by, not_refused, used-by, laid_by}
 use Rattle.unit.proofs.send.lay_one.Goals as goal
 
+-- The writer answers the length of each message that it is given.
+pub returns-in-Refused : goal.returns-in-Refused
+returns-in-Refused c =
+    absurd
+    (not_refused
+    (answered_by _ _ _ _ c.args.changes.now c.args.out.now _ c.requires c.if-kind-eq0.false c.write.ensures.answer)
+    c.in-Refused.is)
+
 pub returns-then-kind-eq0 : goal.returns-then-kind-eq0
 returns-then-kind-eq0 c =
     let args = c.args in
@@ -46,10 +54,3 @@ returns-in-Length c =
 
 pub shape_of-out-in-Refused : goal.shape_of-out-in-Refused
 shape_of-out-in-Refused c = numbered_long c.args.k c.args.out.now c.args.used c.write.auto.frame
-
-pub returns-in-Refused : goal.returns-in-Refused
-returns-in-Refused c =
-    absurd
-    (not_refused
-    (answered_by _ _ _ _ c.args.changes.now c.args.out.now _ c.requires c.if-kind-eq0.false c.write.ensures.answer)
-    c.in-Refused.is)

@@ -22,6 +22,29 @@ differences-whole-requires c = ((facts _ _ _ _ _ c.requires).high, small_tree _ 
 pub loop-k-init : goal.loop-k-init
 loop-k-init c = (omega arith, refl, (refl, refl))
 
+-- The bytes laid are the neighbour's.
+pub loop-k-preserved : goal.loop-k-preserved
+unfolding bytes_for
+loop-k-preserved c =
+    let args = c.args in
+    let k = c.loop-k.k in
+    let inv = c.loop-k.invariant in
+    let some = c.differences-some.result in
+    let whole = c.differences-whole.result in
+    let found : c.changes_for-changes.result
+    ≡ picked (sent_to args.unit.costs args.changed args.new k) (eqb k args.new) whole some =
+    rw c.is_sent-sent.ensures at c.changes_for-changes.ensures in
+    let kind : c.kind_for-kind.result ≡ kind_for (sent_to args.unit.costs args.changed args.new k) (eqb k args.owed) =
+    rw c.is_sent-sent.ensures at c.kind_for-kind.ensures in
+    let bytes : bytes_to k c.kind_for-kind.result args.unit.me (list_in c.changes_for-changes.result)
+    ≡ bytes_for args.changed args.new args.owed args.unit.me args.unit.costs some whole k =
+    rw (kind, found) in (
+      omega (arith, c.loop-k-test.true),
+      c.lay_one-used.auto.out ∙ inv.1,
+      laid_more k (bytes_for args.changed args.new args.owed args.unit.me args.unit.costs some whole) _ _ inv.2 bytes
+          c.lay_one-used.ensures.answer c.lay_one-used.ensures.laid,
+    )
+
 -- The units are few.
 pub offset_bounds-costs-k : goal.offset_bounds-costs-k
 offset_bounds-costs-k c =
@@ -78,29 +101,6 @@ pub overflow_add-k : goal.overflow_add-k
 overflow_add-k c =
     let few : c.args.unit.count ≤ unit_limit = (facts _ _ _ _ _ c.requires).high in
     omega arith
-
--- The bytes laid are the neighbour's.
-pub loop-k-preserved : goal.loop-k-preserved
-unfolding bytes_for
-loop-k-preserved c =
-    let args = c.args in
-    let k = c.loop-k.k in
-    let inv = c.loop-k.invariant in
-    let some = c.differences-some.result in
-    let whole = c.differences-whole.result in
-    let found : c.changes_for-changes.result
-    ≡ picked (sent_to args.unit.costs args.changed args.new k) (eqb k args.new) whole some =
-    rw c.is_sent-sent.ensures at c.changes_for-changes.ensures in
-    let kind : c.kind_for-kind.result ≡ kind_for (sent_to args.unit.costs args.changed args.new k) (eqb k args.owed) =
-    rw c.is_sent-sent.ensures at c.kind_for-kind.ensures in
-    let bytes : bytes_to k c.kind_for-kind.result args.unit.me (list_in c.changes_for-changes.result)
-    ≡ bytes_for args.changed args.new args.owed args.unit.me args.unit.costs some whole k =
-    rw (kind, found) in (
-      omega (arith, c.loop-k-test.true),
-      c.lay_one-used.auto.out ∙ inv.1,
-      laid_more k (bytes_for args.changed args.new args.owed args.unit.me args.unit.costs some whole) _ _ inv.2 bytes
-          c.lay_one-used.ensures.answer c.lay_one-used.ensures.laid,
-    )
 
 pub shape_of-out : goal.shape_of-out
 shape_of-out c = c.loop-k.invariant.1

@@ -42,7 +42,7 @@ class GateLog(unittest.TestCase):
 
     def test_an_error_that_is_no_fact(self):
         wrong = 'low/one: its first error is not about a fact'
-        for text in ('`returns`: `seven` is not in scope', '`)` cannot continue the declaration here'.replace('`)`', ')'),
+        for text in ('`returns`: `seven` is not in scope', '`)` cannot continue the declaration here',
                      '`returns`: `add` was not admitted (it was rejected), so this cannot be checked'):
             self.finds(wrong, LOG.replace('`returns`: expected type `1 ≡ 2`', text))
 

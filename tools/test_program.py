@@ -229,7 +229,7 @@ class Failing(unittest.TestCase):
     def test_output_that_nobody_reads(self):
         done = run_by_shell("{ printf 'units 16\\n'; yes show; } | head -n 1000 | { \"$0\"; echo \"$?\" >&2; } | head -n 1")
         self.assertEqual(done.stdout, b'ok\n')
-        self.assertNotEqual(done.stderr, b'0\n')
+        self.assertEqual(done.stderr, b'141\n')
 
 
 class Building(unittest.TestCase):

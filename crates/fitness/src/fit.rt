@@ -16,7 +16,6 @@ use ground::{
 use message::reader;
 use message::reader::Answer;
 use queues::queue;
-use slices::{bytes, numbers};
 use state::fit;
 
 // Unit i's table: fit, with the network's count, and its own number is its place.
@@ -71,7 +70,7 @@ fn fit_place(place: &[u8], count: usize, sender: usize) -> bool
     if from as usize != sender {
         return false;
     }
-    bytes::is_nothing(&place[length..])
+    slices::is_nothing(&place[length..])
 }
 
 // The messages of a queue.
@@ -104,7 +103,7 @@ fn fit_queue(queue: &[u8], up: bool, count: usize, sender: usize) -> bool
     if !fit_places(queue, held, count, sender) {
         return false;
     }
-    bytes::is_nothing(&queue[held * MESSAGE_ROOM..])
+    slices::is_nothing(&queue[held * MESSAGE_ROOM..])
 }
 
 // Whether two tests agree.
@@ -149,7 +148,7 @@ fn fit_sender(words: &[u32], queues: &[u8], count: usize, a: usize) -> bool
     if !fit_pairs(words, queues, count, a) {
         return false;
     }
-    bytes::is_nothing(&queues[queue::begins(a, count)..a * SENDER_BYTES + SENDER_BYTES])
+    slices::is_nothing(&queues[queue::begins(a, count)..a * SENDER_BYTES + SENDER_BYTES])
 }
 
 fn fit_senders(words: &[u32], queues: &[u8], count: usize) -> bool
@@ -186,13 +185,13 @@ fn are_parts_fit(words: &[u32], queues: &[u8]) -> bool
     if !fit_units(words, count) {
         return false;
     }
-    if !numbers::is_nothing(&words[count * UNIT_WORDS..]) {
+    if !slices::is_nothing(&words[count * UNIT_WORDS..]) {
         return false;
     }
     if !fit_senders(words, queues, count) {
         return false;
     }
-    bytes::is_nothing(&queues[count * SENDER_BYTES..])
+    slices::is_nothing(&queues[count * SENDER_BYTES..])
 }
 
 pub fn is_fit(words: &[u32], queues: &[u8]) -> bool

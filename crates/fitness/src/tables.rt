@@ -4,7 +4,6 @@ ghost use Rattle.ground.specs.Rows.{at};
 ghost use Rattle.fitness.specs.UnitTables.{table_of, with_table, is_linked};
 
 use ground::{NETWORK_WORDS, UNIT_WORDS, UNITS};
-use slices::numbers;
 use state::held::COSTS;
 
 // A number of a table as an index.
@@ -36,7 +35,7 @@ pub fn load(words: &[u32], i: usize) -> [u32; UNIT_WORDS]
         return table;
     }
     let from = i * UNIT_WORDS;
-    numbers::lay_over(&mut table, 0, &words[from..from + UNIT_WORDS]);
+    slices::lay_over(&mut table, 0, &words[from..from + UNIT_WORDS]);
     table
 }
 
@@ -50,7 +49,7 @@ pub fn put(words: &mut [u32], i: usize, table: [u32; UNIT_WORDS])
     if UNITS <= i {
         return;
     }
-    numbers::lay_over(words, i * UNIT_WORDS, &table);
+    slices::lay_over(words, i * UNIT_WORDS, &table);
 }
 
 // Whether unit a's table has the link to b up.

@@ -1,4 +1,5 @@
 -- Laws of rows, tests and limits, and the pigeonhole.
+pub mod Answers
 pub mod Bits
 pub mod Cases
 pub mod Choices

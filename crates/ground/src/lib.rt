@@ -5,6 +5,8 @@
 ghost use Rattle.std.specs.Prelude.{◌≡◌};
 ghost use Rattle.ground.specs.Limits.{legal_cost};
 
+pub mod refusals;
+
 // The most units that a network has.
 pub const UNITS: usize = 16;
 

@@ -8,8 +8,6 @@ ghost use Rattle.lines.specs.Commands.{command_of};
 ghost use Rattle.lines.specs.Following.{Told, either_of, chosen, meter_chosen, others_chosen};
 ghost use Rattle.lines.specs.Words.{word_end, is_digit, is_decimal, value_of};
 
-use slices::bytes;
-
 // The most digits of a decimal, and the most decimals of a command.
 const DIGITS: usize = 9;
 
@@ -157,10 +155,7 @@ fn either(
 ) -> Command
     ensures { result ≡ either_of word.now count name.now k first second }
 {
-    if !bytes::is_same(word, name) {
-        return second;
-    }
-    if count == k {
+    if word == name && count == k {
         return first;
     }
     second

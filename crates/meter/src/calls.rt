@@ -11,7 +11,6 @@ ghost use Rattle.meter.specs.Reading.{start_of, counts};
 use crate::table::{Figure, Frame, Sum};
 use crate::{fit, table};
 use ground::{ANSWERED, ENTERED_LIMIT, FRAMES, HOPS, METER_WORDS, UNIT_WORDS};
-use slices::numbers;
 use state::held::SUCCESSORS;
 
 // The answers for a frame that is delivered, and for one that is dropped.
@@ -132,7 +131,7 @@ pub fn fresh(meter: &mut [u32]) -> u32
     if meter.len() != METER_WORDS {
         return 2;
     }
-    numbers::clear(meter);
+    slices::clear(meter);
     ANSWERED
 }
 

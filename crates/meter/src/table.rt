@@ -7,7 +7,6 @@ ghost use Rattle.frames.specs.MeterTable.{meter_words, figure_from, laid_meter, 
 ghost use Rattle.meter.specs.Reading.{as_read, frame_of, frame_in, held_as, figure_in, start_of, counts};
 
 use ground::{FRAMES, METER_WORDS};
-use slices::numbers;
 
 // What the high number of a figure counts.
 const BASE: u64 = 4294967296;
@@ -153,7 +152,7 @@ pub(crate) fn count_bytes(meter: &mut [u32], sum: Sum, size: u32)
     let from = start_of(sum);
     let figure = stored(meter, from) + size as u64;
     let laid = [(figure / BASE) as u32, (figure % BASE) as u32];
-    numbers::lay_over(meter, from, &laid);
+    slices::lay_over(meter, from, &laid);
 }
 
 // Puts a frame at a place.
@@ -162,5 +161,5 @@ pub(crate) fn put_frame(meter: &mut [u32], place: usize, frame: Frame)
     ensures { meter.new ≡ laid_meter (with_frame (meter_from meter.old) place (frame_of frame)) }
 {
     let laid = [frame.size, frame.unit, frame.destination, frame.hops];
-    numbers::lay_over(meter, PLACES + place * WIDTH, &laid);
+    slices::lay_over(meter, PLACES + place * WIDTH, &laid);
 }

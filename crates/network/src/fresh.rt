@@ -10,7 +10,6 @@ ghost use Rattle.rules.specs.Unit.{fresh_unit};
 
 use fitness::tables;
 use ground::{ANSWERED, NETWORK_BYTES, NETWORK_WORDS, UNIT_WORDS, UNITS};
-use slices::{bytes, numbers};
 use state::questions;
 
 // The fresh unit's table.
@@ -54,8 +53,8 @@ pub fn fresh(count: u32, words: &mut [u32], queues: &mut [u8]) -> u32
     if queues.len() != NETWORK_BYTES {
         return 2;
     }
-    numbers::clear(words);
-    bytes::clear(queues);
+    slices::clear(words);
+    slices::clear(queues);
     fresh_units(words, count);
     ANSWERED
 }

@@ -7,7 +7,6 @@ ghost use Rattle.rules.specs.Tables.{queue_bytes, queue_at};
 ghost use Rattle.queues.specs.Queue.{has_queue, queue_of, with_bytes, held_in, popped_of, appended_of};
 
 use ground::{MESSAGE_ROOM, NETWORK_BYTES, QUEUE_BYTES, QUEUE_ROOM, UNITS};
-use slices::bytes;
 
 // A number of units, no more than there may be.
 fn at_most_all(i: usize) -> usize
@@ -45,7 +44,7 @@ pub fn load(queues: &[u8], a: usize, b: usize) -> [u8; QUEUE_BYTES]
         return queue;
     }
     let from = begins(a, b);
-    bytes::lay_over(&mut queue, 0, &queues[from..from + QUEUE_BYTES]);
+    slices::lay_over(&mut queue, 0, &queues[from..from + QUEUE_BYTES]);
     queue
 }
 
@@ -56,7 +55,7 @@ pub(crate) fn put(queues: &mut [u8], a: usize, b: usize, queue: [u8; QUEUE_BYTES
     if !has_queue(queues, a, b) {
         return;
     }
-    bytes::lay_over(queues, begins(a, b), &queue);
+    slices::lay_over(queues, begins(a, b), &queue);
 }
 
 // The messages that a queue holds. A place past the end of its bytes is free.
@@ -82,7 +81,7 @@ fn popped(queue: [u8; QUEUE_BYTES]) -> [u8; QUEUE_BYTES]
     ensures { result ≡ popped_of queue }
 {
     let mut after = [0u8; QUEUE_BYTES];
-    bytes::lay_over(&mut after, 0, &queue[MESSAGE_ROOM..]);
+    slices::lay_over(&mut after, 0, &queue[MESSAGE_ROOM..]);
     after
 }
 
@@ -91,7 +90,7 @@ pub(crate) fn appended(queue: [u8; QUEUE_BYTES], message: &[u8]) -> [u8; QUEUE_B
     ensures { result ≡ appended_of queue message.now }
 {
     let mut after = queue;
-    bytes::lay_over(&mut after, held(&queue) * MESSAGE_ROOM, message);
+    slices::lay_over(&mut after, held(&queue) * MESSAGE_ROOM, message);
     after
 }
 

@@ -5,7 +5,6 @@ ghost use Rattle.recomputing.specs.Flat.{row_in, with_row, distances_in};
 
 use crate::heads;
 use ground::{COPIES, UNITS};
-use slices::numbers;
 
 // The copy of unit k's tree.
 pub fn copy_of(copies: &[u32], k: usize) -> [u32; UNITS]
@@ -19,7 +18,7 @@ pub fn copy_of(copies: &[u32], k: usize) -> [u32; UNITS]
         return row;
     }
     let from = k * UNITS;
-    numbers::lay_over(&mut row, 0, &copies[from..from + UNITS]);
+    slices::lay_over(&mut row, 0, &copies[from..from + UNITS]);
     row
 }
 
@@ -31,7 +30,7 @@ pub fn with_copy(copies: [u32; COPIES], k: usize, row: [u32; UNITS]) -> [u32; CO
     if UNITS <= k {
         return after;
     }
-    numbers::lay_over(&mut after, k * UNITS, &row);
+    slices::lay_over(&mut after, k * UNITS, &row);
     after
 }
 

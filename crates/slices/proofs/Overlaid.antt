@@ -1,23 +1,35 @@
 -- Numbers laid over others from a place on: where they fit, where they do not, and over numbers that are all 0.
 use Prim.Native.Nat.{ℕ, ◌+◌, ◌-◌, ◌≤◌, ◌<◌}
-use native.Mathlib.Numerals.{add-one}
 use native.Mathlib.Omega.{arith}
 use mathlib.Core.List.{List, [], ◌++◌, append_assoc}
 use mathlib.Core.Logic.{⊎_elim}
-use mathlib.Core.Path.{◌≡◌, refl, sym, ap, ◌∙◌}
+use mathlib.Core.Path.{◌≡◌, sym, ap, ◌∙◌}
 use borrow.Author.Tests.{le-leb, lt-leb}
-use lib.ListN.{length, set, length-set, length-append, length-replicate, replicate-append-replicate}
-use lib.Seq.{paste, paste-zero, paste-suc, length-paste, take_all, drop_at, drop-append-add, take-append_seam}
-use Rattle.ground.specs.Rows.{at, zeros, filled}
+use borrow.Rule.Slice.PartMut.{put_mid}
+use lib.ListN.{length, take, drop, length-append, length-replicate, replicate-append-replicate}
+use lib.Seq.{paste, length-paste, take_all, drop_at, drop-drop, drop-append-add, take-append_seam}
+use Rattle.ground.specs.Rows.{zeros, filled}
 use Rattle.ground.proofs.Filled.{length_filled}
 use Rattle.ground.proofs.Tests.{if_true, if_false, less_or_not}
 use Rattle.slices.specs.Slices.{laid_over}
 
-module _ (to : List ℕ) (place : ℕ) (from : List ℕ) where
+module _ {A : Type 0} (to : List A) (place : ℕ) (from : List A) where
   -- They fit.
   pub laid_fits : place + length from ≤ length to → laid_over to place from ≡ paste to place from (length from)
   unfolding laid_over
   laid_fits h = if_true _ _ _ (le-leb (place + length from) (length to) h)
+
+  -- They fit, as a copy to the part of the list that is lent for it leaves them.
+  pub laid_over_part : {part : List A} → part ≡ from → place + length from ≤ length to
+      → put_mid place (place + length from - place) to part ≡ laid_over to place from
+  laid_over_part {part} e h =
+      let many : place + length from - place ≡ length from = omega arith in
+      ap (λ (n : ℕ). take place to ++ (part ++ drop n (drop place to))) many
+      ∙ ap (λ (p : List A). take place to ++ (p ++ drop (length from) (drop place to))) e
+      ∙ ap (λ (rest : List A). take place to ++ (from ++ rest)) (drop-drop (length from) place to)
+      ∙ sym (append_assoc (take place to) from (drop (place + length from) to))
+      ∙ ap (λ (p : List A). take place to ++ p ++ drop (place + length from) to) (sym (take_all (length from) from (omega arith)))
+      ∙ sym (laid_fits h)
 
   -- They do not.
   pub laid_not : length to < place + length from → laid_over to place from ≡ to
@@ -31,35 +43,6 @@ module _ (to : List ℕ) (place : ℕ) (from : List ℕ) where
       (λ h. ap length (laid_not h))
       (λ h. ap length (laid_fits h) ∙ length-paste to place from (length from) h (omega arith))
       (less_or_not (length to) (place + length from))
-
--- What a loop that lays numbers over others, one at a turn, has made of these after j turns.
-pub record Laying (to : List ℕ) (place : ℕ) (from now : List ℕ) (j : ℕ) : Type 0 where
-  pub turns : j ≤ length from
-  pub fits : place + length from ≤ length to
-  pub long : length now ≡ length to
-  pub laid : now ≡ paste to place from j
-
-module _ (to : List ℕ) (place : ℕ) (from : List ℕ) where
-  -- At first nothing.
-  pub laying_none : place + length from ≤ length to → Laying to place from to 0
-  laying_none h = record { turns = omega arith; fits = h; long = refl; laid = paste-zero to place from }
-
-  module _ {now : List ℕ} {j : ℕ} (l : Laying to place from now j) where
-    -- One turn.
-    pub laying_more : j < length from → Laying to place from (set now (place + j) (at from j)) (j + 1)
-    laying_more h =
-        record {
-          turns = omega arith;
-          fits = l.fits;
-          long = length-set now (place + j) (at from j) ∙ l.long;
-          laid = rw (l.laid, add-one) (paste-suc to place from j 0 (omega arith) h);
-        }
-
-    -- In the end all.
-    pub laying_all : length from ≤ j → now ≡ laid_over to place from
-    laying_all h =
-        let all : j ≡ length from = omega arith in
-        (rw all at l.laid) ∙ sym (laid_fits to place from l.fits)
 
 -- A list that is filled up behind another may be filled up with it as well.
 pub filled_inner : (m k : ℕ) (xs ys : List ℕ) → length ys ≤ k → length xs + k ≤ m

@@ -10,7 +10,6 @@ use crate::held;
 use crate::held::Held;
 use ground::{FAR, HIGHEST_COST, LONGEST, UNIT_WORDS, UNITS};
 use recomputing::{copies, heads, successors, through};
-use slices::numbers;
 
 // One link: down, without copy or wait; or up, at a legal cost, to another unit, with a copy that is a tree.
 fn fit_link(unit: Held, k: usize) -> bool
@@ -26,7 +25,7 @@ fn fit_link(unit: Held, k: usize) -> bool
         if awaited[k] != 0 {
             return false;
         }
-        return numbers::is_nothing(&copy[..count]);
+        return slices::is_nothing(&copy[..count]);
     }
     if k == unit.me {
         return false;
@@ -121,5 +120,5 @@ pub fn is_fit(table: &[u32]) -> bool
     let sets = successors::sets_over(unit.count, through, feasible);
     let mut again = [0u32; UNIT_WORDS];
     held::lay(&mut again, unit, sets);
-    numbers::is_same(table, &again)
+    table == again.as_slice()
 }

@@ -10,7 +10,6 @@ ghost use Rattle.slices.specs.Slices.{laid_over};
 ghost use Rattle.state.specs.Holding.{held_of, unit_of, laid_with, flat_copies, no_unit, held_from, with_unit};
 
 use ground::{COPIES, UNIT_WORDS, UNITS};
-use slices::numbers;
 
 // Where each row begins.
 pub const COSTS: usize = 2;
@@ -43,7 +42,7 @@ pub(crate) fn row(table: &[u32], from: usize, count: usize) -> [u32; UNITS]
     ensures { result ≡ filled unit_limit (part table.now from count) }
 {
     let mut first = [0u32; UNITS];
-    numbers::lay_over(&mut first, 0, &table[from..from + count]);
+    slices::lay_over(&mut first, 0, &table[from..from + count]);
     first
 }
 
@@ -86,14 +85,14 @@ pub(crate) fn load(table: &[u32]) -> Held
 fn put_row(table: &mut [u32], from: usize, row: [u32; UNITS])
     ensures { table.new ≡ laid_over table.old from row }
 {
-    numbers::lay_over(table, from, &row);
+    slices::lay_over(table, from, &row);
 }
 
 // The copies, laid into the table.
 fn put_copies(table: &mut [u32], copies: [u32; COPIES])
     ensures { table.new ≡ laid_over table.old (copy_at 0) copies }
 {
-    numbers::lay_over(table, COPY, &copies);
+    slices::lay_over(table, COPY, &copies);
 }
 
 // No unit: what a table holds that is none.
@@ -166,7 +165,7 @@ pub(crate) fn awaits_some(unit: Held) -> bool
     ensures { result ≡ is_active (unit_of unit) }
 {
     let awaited = unit.awaited;
-    !numbers::is_nothing(&awaited[..unit.count])
+    !slices::is_nothing(&awaited[..unit.count])
 }
 
 // Whether the unit awaits an acknowledgment.

@@ -14,7 +14,6 @@ ghost use Rattle.unit.specs.Reacted.{FitHeld, through_of, lowering_for, lowered_
 use crate::send;
 use ground::UNITS;
 use recomputing::{heads, recompute, successors, through};
-use slices::numbers;
 use state::held;
 use state::held::Held;
 
@@ -32,7 +31,7 @@ fn is_alone(unit: Held) -> bool
     ensures { result ≡ is_alone (unit_of unit) }
 {
     let costs = unit.costs;
-    numbers::is_nothing(&costs[..unit.count])
+    slices::is_nothing(&costs[..unit.count])
 }
 
 // Whether two rows differ below the count.
@@ -40,7 +39,7 @@ fn is_changed(count: usize, old: [u32; UNITS], new: [u32; UNITS]) -> bool
     requires { count ≤ unit_limit }
     ensures { result ≡ not (same (take count old) (take count new)) }
 {
-    !numbers::is_same(&old[..count], &new[..count])
+    old[..count] != new[..count]
 }
 
 // The tree: kept, or recomputed.

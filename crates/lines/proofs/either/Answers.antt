@@ -1,19 +1,22 @@
 -- `lines::either` meets its contract: the word is tested, and then how many decimals follow.
-use mathlib.Core.Path.{sym, ◌∙◌}
+use mathlib.Core.Path.{◌≡◌, sym, ◌∙◌}
 use borrow.Author.Tests.{eq-eqb, ne_eqb}
+use Rattle.slices.proofs.Alike.{alike}
 use Rattle.lines.specs.Following.{either_of}
 use Rattle.lines.proofs.either.Goals as goal
-
-pub returns-then-not-is_same : goal.returns-then-not-is_same
-unfolding either_of
-returns-then-not-is_same c = simp (sym c.is_same.ensures ∙ c.if-not-is_same.true)
+use Rattle.lines.proofs.either.Goals.{else-eq-via-then-eq+else-count-k, else-eq-via-else-eq}
 
 pub returns-then-count-k : goal.returns-then-count-k
 unfolding either_of
 returns-then-count-k c =
-    simp (sym c.is_same.ensures ∙ c.if-not-is_same.false, eq-eqb _ _ c.if-count-k.true)
+    let tested = c.eq.ensures ∙ alike c.args.word.now c.args.name.now in
+    simp (sym tested ∙ c.if-eq.true, eq-eqb _ _ c.if-count-k.true)
 
 pub returns : goal.returns
 unfolding either_of
 returns c =
-    simp (sym c.is_same.ensures ∙ c.if-not-is_same.false, ne_eqb _ _ c.if-count-k.false)
+    let tested = c.eq.ensures ∙ alike c.args.word.now c.args.name.now in
+    elim c.else-eq.branch [
+      | else-eq-via-then-eq+else-count-k w ↦ simp (sym tested ∙ w.if-eq.true, ne_eqb _ _ w.if-count-k.false)
+      | else-eq-via-else-eq w ↦ simp (sym tested ∙ w.if-eq.false)
+    ]

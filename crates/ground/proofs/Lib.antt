@@ -2,6 +2,7 @@
 pub mod Answers
 pub mod Bits
 pub mod Cases
+pub mod Chains
 pub mod Choices
 pub mod Clauses
 pub mod Each

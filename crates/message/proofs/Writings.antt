@@ -128,13 +128,6 @@ low_byte x h = omega arith
 pub high_byte : (c : ℕ) → Fits w32 c → c / change_base % 256 ≡ changed_unit c
 high_byte c h = omega (arith, h)
 
--- A turn of the loop that copies to the start of a place.
-pub copied_more : (built place : List ℕ) (i : ℕ) → i < length built → i < length place
-    → set (take i built ++ drop i place) i (get_or built i 0) ≡ take (i + 1) built ++ drop (i + 1) place
-copied_more built place i from to =
-    let store = paste-suc place 0 built i 0 (rw zero-add to) from in
-    rw add-one (simp zero-add at store)
-
 -- What is known of a message that the writer does not refuse: it fits, and there is room for it from the offset on.
 pub record Writable (m : Message) (places offset : ℕ) : Type 0 where
   pub fitting : Fitting m.kind m.sender m.changes

@@ -8,6 +8,3 @@ use Rattle.message.proofs.reader.changes_in.Given as goal
 
 abbrev pub invariant-loop-i : goal.invariant-loop-i
 invariant-loop-i l = (l.i ≤ l.entries) × (l.changes ≡ filled entry_limit (tab l.i (change_at l.bytes l.entries)))
-
-abbrev pub decreases-loop-i : goal.decreases-loop-i
-decreases-loop-i l = l.entries - l.i

@@ -11,6 +11,3 @@ use Rattle.message.proofs.writer.build.Given as goal
 
 abbrev pub invariant-loop-i : goal.invariant-loop-i
 invariant-loop-i l = (l.i ≤ length l.changes) × (l.built ≡ filled message_room (contents_of l.kind l.sender l.changes ++ body_bytes (take l.i l.changes)))
-
-abbrev pub decreases-loop-i : goal.decreases-loop-i
-decreases-loop-i l = length l.changes - l.i

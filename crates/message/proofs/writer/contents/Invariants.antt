@@ -17,6 +17,3 @@ contents_up_to kind sender changes i = front kind sender changes ++ map changed_
 
 abbrev pub invariant-loop-i : goal.invariant-loop-i
 invariant-loop-i l = (l.i ≤ length l.changes) × (l.built ≡ filled message_room (contents_up_to l.kind l.sender l.changes l.i))
-
-abbrev pub decreases-loop-i : goal.decreases-loop-i
-decreases-loop-i l = length l.changes - l.i

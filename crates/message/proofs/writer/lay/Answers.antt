@@ -6,4 +6,5 @@ use Rattle.message.proofs.writer.lay.Goals as goal
 
 pub returns : goal.returns
 returns c =
-    c.copy.ensures ∙ laid_by (fields_of c.args.kind c.args.sender c.args.changes.now) _ _ _ c.build-built.ensures refl
+    rw c.copy_from_slice.ensures.after
+    (laid_by (fields_of c.args.kind c.args.sender c.args.changes.now) _ _ _ c.build-built.ensures refl)

@@ -8,6 +8,3 @@ use Rattle.recomputing.proofs.links.own_row.Given as goal
 
 abbrev pub invariant-loop-j : goal.invariant-loop-j
 invariant-loop-j l = (l.j ≤ l.count) × (l.row ≡ filled unit_limit (tab l.j (λ i. legal_link (at l.costs i))))
-
-abbrev pub decreases-loop-j : goal.decreases-loop-j
-decreases-loop-j l = l.count - l.j

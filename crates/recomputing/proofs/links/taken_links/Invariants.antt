@@ -8,6 +8,3 @@ use Rattle.recomputing.proofs.links.taken_links.Given as goal
 
 abbrev pub invariant-loop-i : goal.invariant-loop-i
 invariant-loop-i l = (l.i ≤ l.count) × (l.rows ≡ filled_rows unit_limit (tab l.i (taken_row l.count l.me l.costs l.copies l.preferences)))
-
-abbrev pub decreases-loop-i : goal.decreases-loop-i
-decreases-loop-i l = l.count - l.i

@@ -8,6 +8,3 @@ use Rattle.recomputing.proofs.shortest.relax.Given as goal
 
 abbrev pub invariant-loop-j : goal.invariant-loop-j
 invariant-loop-j l = (l.j ≤ l.count) × (l.lower ≡ filled unit_limit (tab l.j (λ k. min (at l.distances k) (plus (at l.distances l.i) (at l.row k)))))
-
-abbrev pub decreases-loop-j : goal.decreases-loop-j
-decreases-loop-j l = l.count - l.j

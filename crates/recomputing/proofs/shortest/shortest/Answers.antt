@@ -8,12 +8,12 @@ use Rattle.recomputing.proofs.Rounds.{turned_none, turned_more, turned_all, turn
 use Rattle.recomputing.proofs.shortest.shortest.Goals as goal
 use Rattle.recomputing.proofs.shortest.shortest.Goals.{then-i-count, else-i-count}
 
-pub loop-done-init : goal.loop-done-init
-loop-done-init c = (search rules, rw c.start-distances.ensures (turned_none c.requires.1))
+pub loop-init : goal.loop-init
+loop-init c = (search rules, rw c.start-distances.ensures (turned_none c.requires.1))
 
-pub loop-done-preserved : goal.loop-done-preserved
-loop-done-preserved c =
-    let here = c.loop-done in
+pub loop-preserved : goal.loop-preserved
+loop-preserved c =
+    let here = c.loop in
     let nearest = c.nearest-i in
     elim c.if-i-count.branch [
       | then-i-count w ↦ (
@@ -29,5 +29,5 @@ loop-done-preserved c =
 
 pub returns : goal.returns
 returns c =
-    let all : c.loop-done.done ≡ c.args.count = omega arith in
-    turned_done (rw all at c.loop-done.invariant.1) c.requires.2 c.requires.1
+    let all : c.loop.counter ≡ c.args.count = omega arith in
+    turned_done (rw all at c.loop.invariant.1) c.requires.2 c.requires.1

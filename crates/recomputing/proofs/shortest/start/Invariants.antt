@@ -9,6 +9,3 @@ use Rattle.recomputing.proofs.shortest.start.Given as goal
 
 abbrev pub invariant-loop-j : goal.invariant-loop-j
 invariant-loop-j l = (l.j ≤ l.count) × (l.distances ≡ filled unit_limit (tab l.j (λ i. if eqb i l.me then 0 else far)))
-
-abbrev pub decreases-loop-j : goal.decreases-loop-j
-decreases-loop-j l = l.count - l.j

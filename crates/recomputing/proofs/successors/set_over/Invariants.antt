@@ -14,6 +14,3 @@ is_below through feasible j k = ltb (at (get_or through k []) j) (at feasible j)
 
 abbrev pub invariant-loop-k : goal.invariant-loop-k
 invariant-loop-k l = (l.k ≤ l.count) × (l.bit ≡ 2 ^ l.k) × (l.set ≡ bits l.k (is_below l.through l.feasible l.j))
-
-abbrev pub decreases-loop-k : goal.decreases-loop-k
-decreases-loop-k l = l.count - l.k

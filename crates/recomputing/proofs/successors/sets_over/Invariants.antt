@@ -8,6 +8,3 @@ use Rattle.recomputing.proofs.successors.sets_over.Given as goal
 
 abbrev pub invariant-loop-j : goal.invariant-loop-j
 invariant-loop-j l = (l.j ≤ l.count) × (l.sets ≡ filled unit_limit (tab l.j (set_over l.count l.through l.feasible)))
-
-abbrev pub decreases-loop-j : goal.decreases-loop-j
-decreases-loop-j l = l.count - l.j

@@ -7,6 +7,3 @@ use Rattle.recomputing.proofs.through.far_row.Given as goal
 
 abbrev pub invariant-loop-j : goal.invariant-loop-j
 invariant-loop-j l = (l.j ≤ l.count) × (l.row ≡ filled unit_limit (tab l.j (λ i. far)))
-
-abbrev pub decreases-loop-j : goal.decreases-loop-j
-decreases-loop-j l = l.count - l.j

@@ -8,6 +8,3 @@ use Rattle.recomputing.proofs.through.preferred.Given as goal
 
 abbrev pub invariant-loop-j : goal.invariant-loop-j
 invariant-loop-j l = (l.j ≤ l.count) × (l.row ≡ filled unit_limit (tab l.j (preferred_cell l.count l.costs l.through)))
-
-abbrev pub decreases-loop-j : goal.decreases-loop-j
-decreases-loop-j l = l.count - l.j

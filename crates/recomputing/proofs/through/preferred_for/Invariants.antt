@@ -6,6 +6,3 @@ use Rattle.recomputing.proofs.through.preferred_for.Given as goal
 
 abbrev pub invariant-loop-k : goal.invariant-loop-k
 invariant-loop-k l = (l.k ≤ l.count) × (l.best ≤ l.count) × Scanned l.count (λ i. sum_through l.costs l.through i l.j) l.k l.nearest l.best
-
-abbrev pub decreases-loop-k : goal.decreases-loop-k
-decreases-loop-k l = l.count - l.k

@@ -9,6 +9,3 @@ use Rattle.recomputing.proofs.through.through_neighbours.Given as goal
 
 abbrev pub invariant-loop-k : goal.invariant-loop-k
 invariant-loop-k l = (l.k ≤ l.count) × (l.rows ≡ filled_rows unit_limit (tab l.k (λ i. tab l.count (through_cell l.count l.costs (copies_in l.count l.copies) i))))
-
-abbrev pub decreases-loop-k : goal.decreases-loop-k
-decreases-loop-k l = l.count - l.k

@@ -8,6 +8,3 @@ use Rattle.state.proofs.held.copies.Given as goal
 
 abbrev pub invariant-loop-i : goal.invariant-loop-i
 invariant-loop-i l = (l.i ≤ flat_length) × (l.numbers ≡ filled flat_length (tab l.i (copy_place l.count l.table)))
-
-abbrev pub decreases-loop-i : goal.decreases-loop-i
-decreases-loop-i l = flat_length - l.i

@@ -13,6 +13,3 @@ distance_to me j = if eqb j me then 0 else far
 
 abbrev pub invariant-loop-j : goal.invariant-loop-j
 invariant-loop-j l = (l.j ≤ l.count) × (l.row ≡ filled unit_limit (tab l.j (distance_to l.me)))
-
-abbrev pub decreases-loop-j : goal.decreases-loop-j
-decreases-loop-j l = l.count - l.j

@@ -14,6 +14,3 @@ invariant-loop-k l = (l.k ≤ l.count)
     × (length l.out ≡ length l.initial.out)
     × Put l.initial.out l.used (joined_to l.k (is_in l.set)) l.then.used l.out
     × (l.then.some ≡ is_some (joined_to l.k (is_in l.set)))
-
-abbrev pub decreases-loop-k : goal.decreases-loop-k
-decreases-loop-k l = l.count - l.k

@@ -1,5 +1,4 @@
 -- The laws by which the code of events meets its contracts, and what an event makes of tables that hold a network.
-pub mod BothTests
 pub mod HeldNetwork
 pub mod LaidTables
 pub mod MessageRoom

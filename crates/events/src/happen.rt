@@ -14,11 +14,7 @@ use queues::{parcels, queue};
 fn used(answer: u32) -> usize
     ensures { result ≡ answer - answer_base }
 {
-    if answer < ANSWERED {
-        0
-    } else {
-        (answer - ANSWERED) as usize
-    }
+    answer.saturating_sub(ANSWERED) as usize
 }
 
 // Whether what unit i sends finds room.
@@ -33,10 +29,7 @@ fn has_room(queues: &[u8], count: usize, i: u32, told: Told) -> bool
 fn have_room(queues: &[u8], count: usize, a: u32, one: Told, b: u32, two: Told) -> bool
     ensures { result ≡ (finds_room queues.now count a one && finds_room queues.now count b two) }
 {
-    if !has_room(queues, count, a, one) {
-        return false;
-    }
-    has_room(queues, count, b, two)
+    has_room(queues, count, a, one) && has_room(queues, count, b, two)
 }
 
 // Unit i's event takes place.

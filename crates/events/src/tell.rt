@@ -45,12 +45,7 @@ pub fn tell(words: &[u32], i: u32, call: Call) -> Told
 fn first_length(entries: u8) -> usize
     ensures { result ≡ min (written_length entries) queue_bytes }
 {
-    let length = 4 + 4 * (entries as usize);
-    if QUEUE_BYTES < length {
-        QUEUE_BYTES
-    } else {
-        length
-    }
+    (4 + 4 * entries as usize).min(QUEUE_BYTES)
 }
 
 // What is told where there is no message.

@@ -1,8 +1,7 @@
 // Whether a network's tables are fit: each unit's table is, both ends of a link agree, each queue holds messages from its
 // sender and only where the link is up, and all else holds zeros.
-ghost use Rattle.std.specs.Bool.{beq};
 ghost use Rattle.std.specs.Prelude.{◌≡◌, ◌*◌, ◌≤◌, ◌<◌, length};
-ghost use Rattle.ground.specs.Limits.{unit_limit, message_room};
+ghost use Rattle.ground.specs.Limits.{unit_limit, message_room, queue_room};
 ghost use Rattle.ground.specs.Rows.{every};
 ghost use Rattle.rules.specs.Tables.{network_words, network_bytes, queue_bytes, fit_tables, part};
 ghost use Rattle.fitness.specs.PartsFit.{fit_table_at, fit_place, fit_bytes, fit_pair, fit_sender, fit_parts};
@@ -24,27 +23,16 @@ fn fit_table(words: &[u32], count: usize, i: usize) -> bool
     ensures { result ≡ fit_table_at words.now count i }
 {
     let from = i * UNIT_WORDS;
-    if !fit::is_fit(&words[from..from + UNIT_WORDS]) {
-        return false;
-    }
-    if tables::wide(words[from]) != count {
-        return false;
-    }
-    tables::wide(words[from + 1]) == i
+    fit::is_fit(&words[from..from + UNIT_WORDS])
+        && words[from] as usize == count
+        && words[from + 1] as usize == i
 }
 
 fn fit_units(words: &[u32], count: usize) -> bool
     requires { (count ≤ unit_limit) × (length words.now ≡ network_words) }
     ensures { result ≡ every count (fit_table_at words.now count) }
 {
-    let mut i = 0;
-    while i < count {
-        if !fit_table(words, count, i) {
-            return false;
-        }
-        i += 1;
-    }
-    true
+    (0..count).all(|i| fit_table(words, count, i))
 }
 
 // One place of a queue: a message of its sender, and nothing after it.
@@ -73,20 +61,21 @@ fn fit_place(place: &[u8], count: usize, sender: usize) -> bool
     slices::is_nothing(&place[length..])
 }
 
+// The same of place i of a queue.
+fn fit_place_in(queue: &[u8], i: usize, count: usize, sender: usize) -> bool
+    requires { (2 ≤ count) × (count ≤ unit_limit) × (length queue.now ≡ queue_bytes) × (i < queue_room) }
+    ensures { result ≡ fit_place count sender (part queue.now (i * message_room) message_room) }
+{
+    let from = i * MESSAGE_ROOM;
+    fit_place(&queue[from..from + MESSAGE_ROOM], count, sender)
+}
+
 // The messages of a queue.
 fn fit_places(queue: &[u8], held: usize, count: usize, sender: usize) -> bool
     requires { (2 ≤ count) × (count ≤ unit_limit) × (length queue.now ≡ queue_bytes) × (held ≡ held_in queue.now) }
     ensures { result ≡ every held (λ i. fit_place count sender (part queue.now (i * message_room) message_room)) }
 {
-    let mut i = 0;
-    while i < held {
-        let from = i * MESSAGE_ROOM;
-        if !fit_place(&queue[from..from + MESSAGE_ROOM], count, sender) {
-            return false;
-        }
-        i += 1;
-    }
-    true
+    (0..held).all(|i| fit_place_in(queue, i, count, sender))
 }
 
 // One queue: messages in its first places, none where the link is down, nothing after.
@@ -95,22 +84,10 @@ fn fit_queue(queue: &[u8], up: bool, count: usize, sender: usize) -> bool
     ensures { result ≡ fit_bytes count sender up queue.now }
 {
     let held = queue::held(queue);
-    if !up {
-        if held != 0 {
-            return false;
-        }
-    }
-    if !fit_places(queue, held, count, sender) {
-        return false;
-    }
-    slices::is_nothing(&queue[held * MESSAGE_ROOM..])
-}
-
-// Whether two tests agree.
-fn agree(a: bool, b: bool) -> bool
-    ensures { result ≡ beq a b }
-{
-    if a { b } else { !b }
+    let is_quiet = up || held == 0;
+    is_quiet
+        && fit_places(queue, held, count, sender)
+        && slices::is_nothing(&queue[held * MESSAGE_ROOM..])
 }
 
 // Two units: their link, and the queue from a to b.
@@ -119,11 +96,9 @@ fn fit_pair(words: &[u32], queues: &[u8], count: usize, a: usize, b: usize) -> b
     ensures { result ≡ fit_pair words.now queues.now count a b }
 {
     let up = tables::is_linked(words, a, b);
-    if !agree(up, tables::is_linked(words, b, a)) {
-        return false;
-    }
     let from = queue::begins(a, b);
-    fit_queue(&queues[from..from + QUEUE_BYTES], up, count, a)
+    up == tables::is_linked(words, b, a)
+        && fit_queue(&queues[from..from + QUEUE_BYTES], up, count, a)
 }
 
 // The links of unit a, and the queues that it sends by.
@@ -131,38 +106,22 @@ fn fit_pairs(words: &[u32], queues: &[u8], count: usize, a: usize) -> bool
     requires { (2 ≤ count) × (count ≤ unit_limit) × (a < count) × (length words.now ≡ network_words) × (length queues.now ≡ network_bytes) }
     ensures { result ≡ every count (fit_pair words.now queues.now count a) }
 {
-    let mut b = 0;
-    while b < count {
-        if !fit_pair(words, queues, count, a, b) {
-            return false;
-        }
-        b += 1;
-    }
-    true
+    (0..count).all(|b| fit_pair(words, queues, count, a, b))
 }
 
 fn fit_sender(words: &[u32], queues: &[u8], count: usize, a: usize) -> bool
     requires { (2 ≤ count) × (count ≤ unit_limit) × (a < count) × (length words.now ≡ network_words) × (length queues.now ≡ network_bytes) }
     ensures { result ≡ fit_sender words.now queues.now count a }
 {
-    if !fit_pairs(words, queues, count, a) {
-        return false;
-    }
-    slices::is_nothing(&queues[queue::begins(a, count)..a * SENDER_BYTES + SENDER_BYTES])
+    fit_pairs(words, queues, count, a)
+        && slices::is_nothing(&queues[queue::begins(a, count)..a * SENDER_BYTES + SENDER_BYTES])
 }
 
 fn fit_senders(words: &[u32], queues: &[u8], count: usize) -> bool
     requires { (2 ≤ count) × (count ≤ unit_limit) × (length words.now ≡ network_words) × (length queues.now ≡ network_bytes) }
     ensures { result ≡ every count (fit_sender words.now queues.now count) }
 {
-    let mut a = 0;
-    while a < count {
-        if !fit_sender(words, queues, count, a) {
-            return false;
-        }
-        a += 1;
-    }
-    true
+    (0..count).all(|a| fit_sender(words, queues, count, a))
 }
 
 // The same as `is_fit`, said part by part.

@@ -6,13 +6,6 @@ ghost use Rattle.fitness.specs.UnitTables.{table_of, with_table, is_linked};
 use ground::{NETWORK_WORDS, UNIT_WORDS, UNITS};
 use state::held::COSTS;
 
-// A number of a table as an index.
-pub(crate) fn wide(x: u32) -> usize
-    ensures { result ≡ x }
-{
-    x as usize
-}
-
 // The network's count: the first number, 0 where there is none.
 pub fn count(words: &[u32]) -> usize
     ensures { result ≡ at words.now 0 }
@@ -20,7 +13,7 @@ pub fn count(words: &[u32]) -> usize
     if words.len() == 0 {
         return 0;
     }
-    wide(words[0])
+    words[0] as usize
 }
 
 // A copy of unit i's table, or zeros where there is none.

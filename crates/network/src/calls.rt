@@ -40,10 +40,7 @@ fn ends_refusal(words: &[u32], queues: &[u8], a: u32, b: u32) -> u32
 fn are_legal_costs(cost_of_a: u32, cost_of_b: u32) -> bool
     ensures { result ≡ (legal_cost cost_of_a && legal_cost cost_of_b) }
 {
-    if !is_legal_cost(cost_of_a) {
-        return false;
-    }
-    is_legal_cost(cost_of_b)
+    is_legal_cost(cost_of_a) && is_legal_cost(cost_of_b)
 }
 
 // Refusals 2 to 6 of a call about the link between a and b, or 0: whether its costs are legal, and whether it asks for the link.

@@ -27,11 +27,9 @@ fn fresh_units(words: &mut [u32], count: u32)
     requires { (2 ≤ count) × (count ≤ unit_limit) × (words.old ≡ zeros network_words) }
     ensures { words.new ≡ laid_units (freshNetwork count) }
 {
-    let mut i: u32 = 0;
-    while i < count {
+    for i in 0..count {
         let table = fresh_table(count, i);
         tables::put(words, i as usize, table);
-        i += 1;
     }
 }
 

@@ -158,17 +158,16 @@ module _ (h : Held) where
         how = lowering_for alone_by was (is_active U)
 
     -- The same from the answers of the functions that find them.
-    pub feasible_composed : {isChanged alone left active : Bool} {how : Lowering} {old new row : List ℕ}
+    pub feasible_composed : {isChanged left active : Bool} {how : Lowering} {old new row : List ℕ}
         → active ≡ is_active U
         → isChanged ≡ changed U t
-        → alone ≡ is_alone U
-        → left ≡ isChanged && alone
+        → left ≡ isChanged && is_alone U
         → how ≡ lowering_for left was active
         → old ≡ distances_in U.tree
         → new ≡ distances_in t
         → row ≡ filled unit_limit (lowered_row N how h.feasible old new)
         → row ≡ laid_row (new_feasible U was t)
-    feasible_composed ea ec el eb eh eo en er = rw (er, eo, en, eh, eb, ec, el, ea) feasible-held
+    feasible_composed ea ec eb eh eo en er = rw (er, eo, en, eh, eb, ec, ea) feasible-held
 
     -- The waits.
     awaited_held : (new : ℕ)

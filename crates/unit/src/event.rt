@@ -55,20 +55,6 @@ fn new_tree(unit: Held, kept: bool, through: [[u32; UNITS]; UNITS]) -> [u32; UNI
     recompute::recomputed(unit.count, unit.me, costs, &copies, through)
 }
 
-// Whether both tests hold.
-fn both(a: bool, b: bool) -> bool
-    ensures { result ≡ (a && b) }
-{
-    if a { b } else { false }
-}
-
-// The smaller of two distances.
-fn lower(a: u32, b: u32) -> u32
-    ensures { result ≡ min a b }
-{
-    if a < b { a } else { b }
-}
-
 // How feasible distances follow.
 #[derive(Clone, Copy)]
 pub enum Lowering {
@@ -105,9 +91,9 @@ fn lowered(how: Lowering, feasible: u32, old: u32, new: u32) -> u32
 {
     match how {
         Lowering::Alone => new,
-        Lowering::Passive => lower(feasible, new),
+        Lowering::Passive => feasible.min(new),
         Lowering::Waiting => feasible,
-        Lowering::Released => lower(old, new),
+        Lowering::Released => old.min(new),
     }
 }
 
@@ -122,10 +108,8 @@ fn new_feasible(
     ensures { result ≡ filled unit_limit (lowered_row count how feasible old new) }
 {
     let mut row = [0u32; UNITS];
-    let mut j = 0;
-    while j < count {
+    for j in 0..count {
         row[j] = lowered(how, feasible[j], old[j], new[j]);
-        j += 1;
     }
     row
 }
@@ -145,7 +129,7 @@ fn feasible_after(
     let me = unit.me;
     let old = unit.tree;
     let feasible = unit.feasible;
-    let how = way(both(changed, is_alone(unit)), was, active);
+    let how = way(changed && is_alone(unit), was, active);
     new_feasible(
         count,
         how,
@@ -159,13 +143,11 @@ fn feasible_after(
 fn wait(cost: u32, awaited: u32, changed: bool, new: bool) -> u32
     ensures { result ≡ wait_to cost awaited changed new }
 {
-    if cost == 0 {
-        return awaited;
+    if cost != 0 && (changed || new) {
+        1
+    } else {
+        awaited
     }
-    if changed {
-        return 1;
-    }
-    if new { 1 } else { awaited }
 }
 
 // The waits: each neighbour that is sent an update is awaited.
@@ -180,10 +162,8 @@ fn new_awaited(
     ensures { result ≡ filled unit_limit (awaited_row count costs awaited changed new) }
 {
     let mut row = [0u32; UNITS];
-    let mut k = 0;
-    while k < count {
+    for k in 0..count {
         row[k] = wait(costs[k], awaited[k], changed, k == new);
-        k += 1;
     }
     row
 }
@@ -200,7 +180,7 @@ pub(crate) fn react(unit: Held, was: bool, new: usize, owed: usize, out: &mut [u
     let copies = unit.copies;
     let through = through::through_neighbours(count, costs, &copies);
     let active = held::is_active(unit);
-    let tree = new_tree(unit, both(was, active), through);
+    let tree = new_tree(unit, was && active, through);
     let old = unit.tree;
     let changed = is_changed(count, old, tree);
     let feasible = feasible_after(unit, was, active, tree, changed);

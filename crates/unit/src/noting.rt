@@ -35,12 +35,9 @@ pub(crate) fn applied(copy: [u32; UNITS], changes: &[u32]) -> [u32; UNITS]
     ensures { result ≡ appliedTo copy changes.now }
 {
     let mut row = copy;
-    let mut i = 0;
-    while i < changes.len() {
-        let change = changes[i];
+    for change in changes {
         let j = (change / CHANGE_BASE) as usize;
         row[j] = entry_of(change % CHANGE_BASE);
-        i += 1;
     }
     row
 }
@@ -50,14 +47,11 @@ pub(crate) fn changes_nothing(copy: [u32; UNITS], changes: &[u32]) -> bool
     requires { UnitsBelow unit_limit changes.now }
     ensures { result ≡ changes_nothing copy changes.now }
 {
-    let mut i = 0;
-    while i < changes.len() {
-        let change = changes[i];
+    for change in changes {
         let j = (change / CHANGE_BASE) as usize;
         if copy[j] == entry_of(change % CHANGE_BASE) {
             return true;
         }
-        i += 1;
     }
     false
 }

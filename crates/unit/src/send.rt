@@ -35,13 +35,11 @@ fn differences(count: usize, old: [u32; UNITS], new: [u32; UNITS]) -> Changes
 {
     let mut number = 0;
     let mut list = [0u32; UNITS];
-    let mut j = 0;
-    while j < count {
+    for j in 0..count {
         if old[j] != new[j] {
             list[number] = change(j, new[j]);
             number += 1;
         }
-        j += 1;
     }
     Changes { number, list }
 }
@@ -50,10 +48,7 @@ fn differences(count: usize, old: [u32; UNITS], new: [u32; UNITS]) -> Changes
 fn is_sent(cost: u32, changed: bool, new: bool) -> bool
     ensures { result ≡ not (eqb cost 0) && (changed || new) }
 {
-    if cost == 0 {
-        return false;
-    }
-    if changed { true } else { new }
+    cost != 0 && (changed || new)
 }
 
 // The kind of the message to a neighbour: 0 for none.
@@ -126,15 +121,13 @@ pub(crate) fn send(
     let some = differences(count, old, tree);
     let whole = differences(count, [0u32; UNITS], tree);
     let mut used = 0;
-    let mut k = 0;
-    while k < count {
+    for k in 0..count {
         let sent = is_sent(costs[k], changed, k == new);
         let changes = changes_for(sent, k == new, whole, some);
         let number = changes.number;
         let list = changes.list;
         let kind = kind_for(sent, k == owed);
         used = lay_one(count, me, k, kind, &list[..number], out, used);
-        k += 1;
     }
     used
 }

@@ -1,4 +1,4 @@
--- `unit::event::lowered` meets its contract, by what `lower` says.
+-- `unit::event::lowered` meets its contract, by what `min` says.
 use Prim.Native.Nat.{ℕ}
 use mathlib.Core.Path.{◌≡◌, sym, ap, ◌∙◌}
 use Rattle.unit.specs.Reacted.{lowered_to}
@@ -12,9 +12,9 @@ by_way feasible old new e er = er ∙ ap (λ (h : Lowering). lowered_to h feasib
 pub returns-in-Passive : goal.returns-in-Passive
 returns-in-Passive c =
     let args = c.args in
-    by_way args.feasible args.old args.new c.in-Passive.is c.lower.ensures
+    by_way args.feasible args.old args.new c.in-Passive.is c.min.ensures
 
 pub returns-in-Released : goal.returns-in-Released
 returns-in-Released c =
     let args = c.args in
-    by_way args.feasible args.old args.new c.in-Released.is c.lower-in-Released.ensures
+    by_way args.feasible args.old args.new c.in-Released.is c.min-in-Released.ensures

@@ -1,5 +1,5 @@
 -- The invariant: the array holds the waits passed, and zeros.
-use Prim.Native.Nat.{◌≤◌, ◌-◌}
+use Prim.Native.Nat.{◌≤◌}
 use mathlib.Core.Path.{◌≡◌}
 use Rattle.ground.specs.Limits.{unit_limit}
 use Rattle.ground.specs.Rows.{filled}
@@ -8,6 +8,3 @@ use Rattle.unit.proofs.event.new_awaited.Given as goal
 
 abbrev pub invariant-loop-k : goal.invariant-loop-k
 invariant-loop-k l = (l.k ≤ l.count) × (l.row ≡ filled unit_limit (awaited_row l.k l.costs l.awaited l.changed l.new))
-
-abbrev pub decreases-loop-k : goal.decreases-loop-k
-decreases-loop-k l = l.count - l.k

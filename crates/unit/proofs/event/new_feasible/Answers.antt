@@ -1,5 +1,4 @@
 -- `unit::event::new_feasible` meets its contract. The invariant: the array holds the distances passed, and zeros.
-use Prim.Native.Nat.{◌-◌}
 use native.Mathlib.Omega.{arith}
 use mathlib.Core.Path.{refl}
 use borrow.Author.Rules.{rules}

@@ -1,5 +1,5 @@
 -- The invariant: the array holds the distances passed, and zeros.
-use Prim.Native.Nat.{◌≤◌, ◌-◌}
+use Prim.Native.Nat.{◌≤◌}
 use mathlib.Core.Path.{◌≡◌}
 use Rattle.ground.specs.Limits.{unit_limit}
 use Rattle.ground.specs.Rows.{filled}
@@ -8,6 +8,3 @@ use Rattle.unit.proofs.event.new_feasible.Given as goal
 
 abbrev pub invariant-loop-j : goal.invariant-loop-j
 invariant-loop-j l = (l.j ≤ l.count) × (l.row ≡ filled unit_limit (lowered_row l.j l.how l.feasible l.old l.new))
-
-abbrev pub decreases-loop-j : goal.decreases-loop-j
-decreases-loop-j l = l.count - l.j

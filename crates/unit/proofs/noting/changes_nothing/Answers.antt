@@ -16,19 +16,19 @@ use Rattle.unit.proofs.noting.changes_nothing.Goals as goal
 use Rattle.unit.proofs.noting.changes_nothing.Invariants.{is_kept}
 
 pub overflow_cast-j : goal.overflow_cast-j
-overflow_cast-j c = omega (arith, c.type_inv.changes c.loop-i.i)
+overflow_cast-j c = omega (arith, c.type_inv.changes c.loop-change.change-index)
 
 -- The change that is read is of a unit that has a place.
 pub offset_bounds-copy-j : goal.offset_bounds-copy-j
 offset_bounds-copy-j c =
-    let has_place : changed_unit (at c.args.changes.now c.loop-i.i) < unit_limit =
-    c.requires c.loop-i.i c.loop-i-test.true in
+    let has_place : changed_unit (at c.args.changes.now c.loop-change.change-index) < unit_limit =
+    c.requires c.loop-change.change-index c.loop-change-test.true in
     omega (arith, has_place)
 
 pub bounds-copy-j : goal.bounds-copy-j
 bounds-copy-j c =
-    let has_place : changed_unit (at c.args.changes.now c.loop-i.i) < unit_limit =
-    c.requires c.loop-i.i c.loop-i-test.true in
+    let has_place : changed_unit (at c.args.changes.now c.loop-change.change-index) < unit_limit =
+    c.requires c.loop-change.change-index c.loop-change-test.true in
     omega (arith, has_place)
 
 pub returns-then-copy-j : goal.returns-then-copy-j
@@ -36,21 +36,21 @@ unfolding changes_nothing
 returns-then-copy-j c =
     let args = c.args in
     sym
-    (some_of (length args.changes.now) (is_kept args.copy args.changes.now) c.loop-i.i c.loop-i-test.true
+    (some_of (length args.changes.now) (is_kept args.copy args.changes.now) c.loop-change.change-index c.loop-change-test.true
     (eq-eqb _ _ (c.if-copy-j.true ∙ c.entry_of.ensures)))
 
-pub loop-i-preserved : goal.loop-i-preserved
-loop-i-preserved c =
-    let here = c.loop-i in
+pub loop-change-preserved : goal.loop-change-preserved
+loop-change-preserved c =
+    let here = c.loop-change in
     let kept = is_kept c.args.copy c.args.changes.now in (
       search rules,
       rw add-one
-          (neither_of (some here.i kept) (kept here.i) here.invariant.1
+          (neither_of (some here.change-index kept) (kept here.change-index) here.invariant.1
           (ne_eqb _ _ (λ e. c.if-copy-j.false (e ∙ sym c.entry_of.ensures)))),
     )
 
 pub returns : goal.returns
 unfolding changes_nothing
 returns c =
-    let all : c.loop-i.i ≡ length c.args.changes.now = omega arith in
-    sym (rw (← all) c.loop-i.invariant.1)
+    let all : c.loop-change.change-index ≡ length c.args.changes.now = omega arith in
+    sym (rw (← all) c.loop-change.invariant.1)

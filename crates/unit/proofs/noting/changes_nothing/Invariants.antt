@@ -1,5 +1,5 @@
 -- The invariant: none of the first i changes leaves the copy as it is.
-use Prim.Native.Nat.{ℕ, ◌-◌, ◌≤◌}
+use Prim.Native.Nat.{ℕ, ◌≤◌}
 use mathlib.Core.Bool.{Bool, false}
 use mathlib.Core.List.{List}
 use mathlib.Core.Path.{◌≡◌}
@@ -13,8 +13,5 @@ use Rattle.unit.proofs.noting.changes_nothing.Given as goal
 abbrev pub is_kept : (copy changes : List ℕ) (i : ℕ) → Bool
 is_kept copy changes i = eqb (at copy (changed_unit (at changes i))) (entry_of (body_of (at changes i)))
 
-abbrev pub invariant-loop-i : goal.invariant-loop-i
-invariant-loop-i l = (l.i ≤ length l.changes) × (some l.i (is_kept l.copy l.changes) ≡ false)
-
-abbrev pub decreases-loop-i : goal.decreases-loop-i
-decreases-loop-i l = length l.changes - l.i
+abbrev pub invariant-loop-change : goal.invariant-loop-change
+invariant-loop-change l = (l.change-index ≤ length l.changes) × (some l.change-index (is_kept l.copy l.changes) ≡ false)

@@ -1,7 +1,6 @@
 -- `unit::noting::new_cost` meets its contract. The cost is stored by `row_stored`.
 use mathlib.Core.Path.{ap}
 use lib.ListN.{set}
-use Rattle.ground.specs.Rows.{zeros}
 use Rattle.rules.specs.Event.{noted}
 use Rattle.state.specs.Holding.{unit_of}
 use Rattle.state.specs.declared.held.Held.{Held}

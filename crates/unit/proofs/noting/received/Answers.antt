@@ -11,7 +11,7 @@ use Rattle.ground.specs.Limits.{unit_limit}
 use Rattle.ground.specs.Rows.{filled, joined}
 use Rattle.tree.specs.Recompute.{copy_of}
 use Rattle.rules.specs.Event.{noted}
-use Rattle.rules.specs.Message.{Message, applied, holds_acknowledgment, holds_update}
+use Rattle.rules.specs.Message.{applied, holds_acknowledgment, holds_update}
 use Rattle.rules.specs.Tables.{laid_row}
 use Rattle.message.specs.Fields.{fields_of}
 use Rattle.ground.proofs.Tests.{if_true, if_false}

@@ -9,11 +9,11 @@ use Rattle.ground.specs.Limits.{unit_limit, legal_count}
 use Rattle.ground.proofs.Clauses.{heard_answer_changes}
 use Rattle.ground.proofs.Limits.{count_legal}
 use Rattle.rules.proofs.FitUnit.{fit_facts}
-use Rattle.message.proofs.ReaderAnswers.{Taken, taken, unread, passed_on}
+use Rattle.message.proofs.ReaderAnswers.{taken, unread, passed_on}
 use Rattle.state.specs.Holding.{unit_of}
 use Rattle.state.specs.declared.held.Held.{Held}
 use Rattle.unit.specs.Reacted.{FitHeld}
-use Rattle.unit.proofs.ContentRefusals.{refused_unread, refused_sender, refused_wait, Awaited, refused_idle}
+use Rattle.unit.proofs.ContentRefusals.{refused_unread, refused_sender, refused_wait, refused_idle}
 use Rattle.unit.proofs.ContentRefusals.{after_length, refused_tree, refused_none}
 use Rattle.unit.proofs.HeldFit.{held_high, held_padded}
 use Rattle.unit.proofs.refusing.content_refusal.Goals as goal

@@ -1,5 +1,4 @@
 -- `unit::send::differences` meets its contract: after each turn the changes of the units passed are listed.
-use Prim.Native.Nat.{◌≤◌}
 use native.Mathlib.Omega.{arith}
 use mathlib.Core.Path.{◌≡◌, refl}
 use Rattle.rules.specs.Message.{differences}

@@ -97,11 +97,6 @@ lay_one-used-requires c =
     (ap list_in found)
     inv.1
 
-pub overflow_add-k : goal.overflow_add-k
-overflow_add-k c =
-    let few : c.args.unit.count ≤ unit_limit = (facts _ _ _ _ _ c.requires).high in
-    omega arith
-
 pub shape_of-out : goal.shape_of-out
 shape_of-out c = c.loop-k.invariant.1
 

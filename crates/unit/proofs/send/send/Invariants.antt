@@ -1,5 +1,5 @@
 -- The invariant: the bytes of the neighbours passed lie at the buffer's start.
-use Prim.Native.Nat.{◌-◌, ◌≤◌}
+use Prim.Native.Nat.{◌≤◌}
 use mathlib.Core.Path.{◌≡◌}
 use lib.ListN.{length}
 use Rattle.unit.proofs.AllMessages.{bytes_for}
@@ -10,6 +10,3 @@ abbrev pub invariant-loop-k : goal.invariant-loop-k
 invariant-loop-k l =
     (l.k ≤ l.count) × (length l.out ≡ length l.initial.out)
     × Laid l.k (bytes_for l.changed l.new l.owed l.me l.costs l.some l.whole) l.initial.out l.used l.out
-
-abbrev pub decreases-loop-k : goal.decreases-loop-k
-decreases-loop-k l = l.count - l.k

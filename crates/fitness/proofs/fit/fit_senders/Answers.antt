@@ -1,0 +1,10 @@
+-- `fitness::fit::fit_senders` meets its contract, by what `all` finds over a range.
+use Rattle.std.proofs.Common.{rules, tests}
+use Rattle.fitness.specs.PartsFit.{fit_sender}
+use Rattle.fitness.proofs.Chains.{every_from_all}
+use Rattle.fitness.proofs.fit.fit_senders.Goals as goal
+
+pub returns : goal.returns
+returns c =
+    let args = c.args in
+    every_from_all (fit_sender args.words.now args.queues.now args.count) args.count _ _ _ c.all.ensures.ran (λ x b q k. search (rules, tests))

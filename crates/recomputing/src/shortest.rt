@@ -1,11 +1,11 @@
 // Shortest distances over links, the quick engine: each unit is settled once, nearest first, and then offers its distance
 // to the others. A settled unit's distance is final, because every link costs at least 1.
-ghost use Rattle.std.specs.Prelude.{◌≡◌, ◌≤◌, ◌<◌};
+ghost use Rattle.std.specs.Prelude.{◌≡◌, ◌≤◌, ◌<◌, IfSome, unwrap_or};
 ghost use Rattle.ground.specs.Limits.{unit_limit};
 ghost use Rattle.ground.specs.Rows.{filled};
 ghost use Rattle.tree.specs.Shortest.{shortest as shortestDistances};
 ghost use Rattle.tree.proofs.Shortest.{Links};
-ghost use Rattle.recomputing.specs.Settling.{Nearest, relaxed, at_start};
+ghost use Rattle.recomputing.specs.Settling.{Nearest, is_nearer, relaxed, at_start};
 
 use crate::heads;
 use ground::{FAR, UNITS};
@@ -22,19 +22,27 @@ fn start(count: usize, me: usize) -> [u32; UNITS]
     distances
 }
 
-// The nearest unit that isn't settled, or `count`.
-fn nearest(count: usize, distances: [u32; UNITS], settled: [bool; UNITS]) -> usize
-    requires { count ≤ unit_limit }
-    ensures { Nearest count distances settled result }
+// Whether unit j is nearer than the nearest so far, if there is one.
+fn is_nearer(distances: [u32; UNITS], j: usize, nearest: Option<usize>) -> bool
+    requires { (j < unit_limit) × IfSome nearest (λ i. i < unit_limit) }
+    ensures { result ≡ is_nearer distances j nearest }
 {
-    let mut best = count;
+    match nearest {
+        Some(i) => distances[j] < distances[i],
+        None => true,
+    }
+}
+
+// The nearest unit that isn't settled, if there is one.
+fn nearest(count: usize, distances: [u32; UNITS], settled: [bool; UNITS]) -> Option<usize>
+    requires { count ≤ unit_limit }
+    ensures below { IfSome result (λ i. i < count) }
+    ensures nearest { Nearest count distances settled (unwrap_or result count) }
+{
+    let mut best = None;
     for j in 0..count {
-        if !settled[j] {
-            if best == count {
-                best = j;
-            } else if distances[j] < distances[best] {
-                best = j;
-            }
+        if !settled[j] && is_nearer(distances, j, best) {
+            best = Some(j);
         }
     }
     best
@@ -65,8 +73,7 @@ pub(crate) fn shortest(count: usize, me: usize, links: [[u32; UNITS]; UNITS]) ->
     let mut distances = start(count, me);
     let mut settled = [false; UNITS];
     for _ in 0..count {
-        let i = nearest(count, distances, settled);
-        if i < count {
+        if let Some(i) = nearest(count, distances, settled) {
             let row = links[i];
             let lower = relax(count, distances, i, row);
             distances = lower;

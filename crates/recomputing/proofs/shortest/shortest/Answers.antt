@@ -1,12 +1,10 @@
 -- `recomputing::shortest::shortest` meets its contract. The invariant: what settling units, nearest first, has made of the arrays.
-use Prim.Native.Nat.{◌-◌}
 use native.Mathlib.Omega.{arith}
-use mathlib.Core.Path.{◌≡◌}
+use mathlib.Core.Path.{◌≡◌, refl}
 use borrow.Author.Rules.{rules}
-use Rattle.ground.specs.Rows.{at}
 use Rattle.recomputing.proofs.Rounds.{turned_none, turned_more, turned_all, turned_done}
 use Rattle.recomputing.proofs.shortest.shortest.Goals as goal
-use Rattle.recomputing.proofs.shortest.shortest.Goals.{then-i-count, else-i-count}
+use Rattle.recomputing.proofs.shortest.shortest.Goals.{in-Some, in_default}
 
 pub loop-init : goal.loop-init
 loop-init c = (search rules, rw c.start-distances.ensures (turned_none c.requires.1))
@@ -14,16 +12,16 @@ loop-init c = (search rules, rw c.start-distances.ensures (turned_none c.require
 pub loop-preserved : goal.loop-preserved
 loop-preserved c =
     let here = c.loop in
-    let nearest = c.nearest-i in
-    elim c.if-i-count.branch [
-      | then-i-count w ↦ (
+    elim c.match-nearest.branch [
+      | in-Some w ↦
+          let known = w.in-Some.ensures in (
+            search rules,
+            rw (w.distances-is, w.settled-is, w.relax-lower.ensures)
+                (turned_more here.invariant.1 known.nearest known.below c.requires.0 c.requires.1),
+          )
+      | in_default w ↦ (
         search rules,
-        rw (w.distances-is, w.settled-is, w.relax-lower.ensures)
-            (turned_more here.invariant.1 nearest.ensures w.if-i-count.true c.requires.0 c.requires.1),
-      )
-      | else-i-count w ↦ (
-        search rules,
-        rw (w.distances-is, w.settled-is) (turned_all here.invariant.1 nearest.ensures w.if-i-count.false),
+        rw (w.distances-is, w.settled-is) (turned_all here.invariant.1 w.in_default.ensures.nearest (omega arith)),
       )
     ]
 

@@ -223,6 +223,51 @@ class Contracts(Repository):
                          ('calls.down.Reads.Learnt', '(λ κs call answer exit. Learnt κs call answer exit)')):
             self.finds('crates/high/proofs/OneOutput.antt', old, new, wrong)
 
+    def test_a_method_and_a_generic_function(self):
+        more = {
+            'crates/high/src/calls.rt': GOOD['crates/high/src/calls.rt'] + """
+impl Link {
+    pub fn number(self) -> u32
+        ensures { result ≡ 1 }
+    {
+        1
+    }
+}
+
+impl From<Link> for u32 {
+    fn from(link: Link) -> u32 {
+        1
+    }
+}
+
+pub fn lay<T: Copy>(to: &mut [T])
+    ensures { to.new ≡ to.old }
+{
+}
+""",
+            'crates/high/proofs/OneOutput.antt': GOOD['crates/high/proofs/OneOutput.antt'] + """
+pub calls_Link_number_once : OneOutput said.calls.Link.number.ended calls.Link.number.Reads.Learnt
+calls_Link_number_once _ _ _ _ p q i = (agree p q i, _)
+
+module _ (T : RattleType) (laws : Laws T) (clone : Clone.Ghosts T.Denot) where
+  pub calls_lay_once : OneOutput (said.calls.lay.ended T clone)
+      (calls.lay.Reads.Learnt T laws clone)
+  calls_lay_once _ _ _ _ p q i = (_, (agree p q i, _))
+""",
+            'docs/CONTRACTS.md': GOOD['docs/CONTRACTS.md'].replace('`outside`', '`outside`, `calls::Link::number`, `calls::lay`'),
+        }
+        self.put(GOOD)
+        self.put(more)
+        status, lines, _ = self.run_tool('check-contracts', self.root)
+        self.assertEqual((status, lines), (0, ['check-contracts: 2 crates, 5 public functions, 3 must-fail edits, 0 wrong']))
+        laws = 'crates/high/proofs/OneOutput.antt'
+        for old, new in (('Learnt T laws clone', 'Learnt T laws made'), ('said.calls.lay.ended', 'said.calls.up.ended')):
+            self.put({laws: more[laws].replace(old, new)})
+            status, lines, _ = self.run_tool('check-contracts', self.root)
+            self.assertEqual((status, lines[:-1]), (1, [
+                'high: calls_lay_once does not say OneOutput said.calls.lay.ended calls.lay.Reads.Learnt'
+                ' (crates/high/proofs/OneOutput.antt:19)']))
+
     def test_a_law_without_its_function(self):
         for name in ('calls_own_once', 'calls_near_once', 'calls_down_twice'):
             self.finds('crates/high/proofs/OneOutput.antt', 'pub outside_once', f'pub {name} : OneOutput x y\n\npub outside_once',

@@ -1,5 +1,4 @@
 -- The laws by which the code of fitness meets its contracts, and what others need of a unit's table among all.
-pub mod Chains
 pub mod FitOfParts
 pub mod FitTables
 pub mod OneOutput

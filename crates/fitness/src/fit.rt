@@ -17,24 +17,6 @@ use message::reader::Answer;
 use queues::queue;
 use state::fit;
 
-// Unit i's table: fit, with the network's count, and its own number is its place.
-fn fit_table(words: &[u32], count: usize, i: usize) -> bool
-    requires { (i < unit_limit) × (length words.now ≡ network_words) }
-    ensures { result ≡ fit_table_at words.now count i }
-{
-    let from = i * UNIT_WORDS;
-    fit::is_fit(&words[from..from + UNIT_WORDS])
-        && words[from] as usize == count
-        && words[from + 1] as usize == i
-}
-
-fn fit_units(words: &[u32], count: usize) -> bool
-    requires { (count ≤ unit_limit) × (length words.now ≡ network_words) }
-    ensures { result ≡ every count (fit_table_at words.now count) }
-{
-    (0..count).all(|i| fit_table(words, count, i))
-}
-
 // One place of a queue: a message of its sender, and nothing after it.
 fn fit_place(place: &[u8], count: usize, sender: usize) -> bool
     requires { (2 ≤ count) × (count ≤ unit_limit) × (length place.now ≡ message_room) }
@@ -90,38 +72,68 @@ fn fit_queue(queue: &[u8], up: bool, count: usize, sender: usize) -> bool
         && slices::is_nothing(&queue[held * MESSAGE_ROOM..])
 }
 
-// Two units: their link, and the queue from a to b.
-fn fit_pair(words: &[u32], queues: &[u8], count: usize, a: usize, b: usize) -> bool
-    requires { (2 ≤ count) × (count ≤ unit_limit) × (a < count) × (b < count) × (length words.now ≡ network_words) × (length queues.now ≡ network_bytes) }
-    ensures { result ≡ fit_pair words.now queues.now count a b }
-{
-    let up = tables::is_linked(words, a, b);
-    let from = queue::begins(a, b);
-    up == tables::is_linked(words, b, a)
-        && fit_queue(&queues[from..from + QUEUE_BYTES], up, count, a)
+// The two tables of a network, of their lengths, with a count that a network has.
+#[derive(Clone, Copy)]
+struct Measured<'a> {
+    words: &'a [u32],
+    queues: &'a [u8],
+    count: usize,
+    ghost least: { 2 ≤ count },
+    ghost most: { count ≤ unit_limit },
+    ghost words_long: { length words.now ≡ network_words },
+    ghost queues_long: { length queues.now ≡ network_bytes },
 }
 
-// The links of unit a, and the queues that it sends by.
-fn fit_pairs(words: &[u32], queues: &[u8], count: usize, a: usize) -> bool
-    requires { (2 ≤ count) × (count ≤ unit_limit) × (a < count) × (length words.now ≡ network_words) × (length queues.now ≡ network_bytes) }
-    ensures { result ≡ every count (fit_pair words.now queues.now count a) }
-{
-    (0..count).all(|b| fit_pair(words, queues, count, a, b))
-}
+impl<'a> Measured<'a> {
+    // Two units: their link, and the queue from a to b.
+    fn fit_pair(&self, a: usize, b: usize) -> bool
+        requires { (a < self.now.count) × (b < self.now.count) }
+        ensures { result ≡ fit_pair self.now.words.now self.now.queues.now self.now.count a b }
+    {
+        let up = tables::is_linked(self.words, a, b);
+        let from = queue::begins(a, b);
+        up == tables::is_linked(self.words, b, a)
+            && fit_queue(&self.queues[from..from + QUEUE_BYTES], up, self.count, a)
+    }
 
-fn fit_sender(words: &[u32], queues: &[u8], count: usize, a: usize) -> bool
-    requires { (2 ≤ count) × (count ≤ unit_limit) × (a < count) × (length words.now ≡ network_words) × (length queues.now ≡ network_bytes) }
-    ensures { result ≡ fit_sender words.now queues.now count a }
-{
-    fit_pairs(words, queues, count, a)
-        && slices::is_nothing(&queues[queue::begins(a, count)..a * SENDER_BYTES + SENDER_BYTES])
-}
+    // The links of unit a, and the queues that it sends by.
+    fn fit_pairs(&self, a: usize) -> bool
+        requires { a < self.now.count }
+        ensures { result ≡ every self.now.count (fit_pair self.now.words.now self.now.queues.now self.now.count a) }
+    {
+        (0..self.count).all(|b| self.fit_pair(a, b))
+    }
 
-fn fit_senders(words: &[u32], queues: &[u8], count: usize) -> bool
-    requires { (2 ≤ count) × (count ≤ unit_limit) × (length words.now ≡ network_words) × (length queues.now ≡ network_bytes) }
-    ensures { result ≡ every count (fit_sender words.now queues.now count) }
-{
-    (0..count).all(|a| fit_sender(words, queues, count, a))
+    fn fit_sender(&self, a: usize) -> bool
+        requires { a < self.now.count }
+        ensures { result ≡ fit_sender self.now.words.now self.now.queues.now self.now.count a }
+    {
+        let from = queue::begins(a, self.count);
+        self.fit_pairs(a) && slices::is_nothing(&self.queues[from..a * SENDER_BYTES + SENDER_BYTES])
+    }
+
+    fn fit_senders(&self) -> bool
+        ensures { result ≡ every self.now.count (fit_sender self.now.words.now self.now.queues.now self.now.count) }
+    {
+        (0..self.count).all(|a| self.fit_sender(a))
+    }
+
+    fn fit_units(&self) -> bool
+        ensures { result ≡ every self.now.count (fit_table_at self.now.words.now self.now.count) }
+    {
+        (0..self.count).all(|i| self.fit_table(i))
+    }
+
+    // Unit i's table: fit, with the network's count, and its own number is its place.
+    fn fit_table(&self, i: usize) -> bool
+        requires { i < unit_limit }
+        ensures { result ≡ fit_table_at self.now.words.now self.now.count i }
+    {
+        let from = i * UNIT_WORDS;
+        fit::is_fit(&self.words[from..from + UNIT_WORDS])
+            && self.words[from] as usize == self.count
+            && self.words[from + 1] as usize == i
+    }
 }
 
 // The same as `is_fit`, said part by part.
@@ -141,16 +153,15 @@ fn are_parts_fit(words: &[u32], queues: &[u8]) -> bool
         return false;
     }
     let count = words[0] as usize;
-    if !fit_units(words, count) {
-        return false;
-    }
-    if !slices::is_nothing(&words[count * UNIT_WORDS..]) {
-        return false;
-    }
-    if !fit_senders(words, queues, count) {
-        return false;
-    }
-    slices::is_nothing(&queues[count * SENDER_BYTES..])
+    let measured = Measured {
+        words,
+        queues,
+        count,
+    };
+    measured.fit_units()
+        && slices::is_nothing(&words[count * UNIT_WORDS..])
+        && measured.fit_senders()
+        && slices::is_nothing(&queues[count * SENDER_BYTES..])
 }
 
 pub fn is_fit(words: &[u32], queues: &[u8]) -> bool

@@ -7,7 +7,7 @@ use Rattle.ground.specs.Limits.{message_room, queue_room}
 use Rattle.rules.specs.Tables.{part}
 use Rattle.queues.proofs.QueueThere.{held_most}
 use Rattle.fitness.specs.PartsFit.{fit_place}
-use Rattle.fitness.proofs.Chains.{every_from_all}
+use Rattle.ground.proofs.Chains.{all_below}
 use Rattle.fitness.proofs.fit.fit_places.Goals as goal
 
 pub all-requires-clause-callable : goal.all-requires-clause-callable
@@ -20,5 +20,5 @@ all-requires-clause-callable c =
 pub returns : goal.returns
 returns c =
     let args = c.args in
-    every_from_all (λ i. fit_place args.count args.sender (part args.queue.now (i * message_room) message_room)) args.held
+    all_below (λ i. fit_place args.count args.sender (part args.queue.now (i * message_room) message_room)) args.held
     _ _ _ c.all.ensures.ran (λ x b q k. search (rules, tests))

@@ -1,6 +1,7 @@
 -- Laws of rows, tests and limits, and the pigeonhole.
 pub mod Bits
 pub mod Cases
+pub mod Chains
 pub mod Choices
 pub mod Clauses
 pub mod Each

@@ -43,10 +43,8 @@ pub fn distances(tree: [u32; UNITS], count: usize, root: usize) -> [u32; UNITS]
     if UNITS < count {
         return row;
     }
-    let mut j = 0;
-    while j < count {
+    for j in 0..count {
         row[j] = distance(&tree[..count], root, count - 1, j);
-        j += 1;
     }
     row
 }
@@ -76,12 +74,5 @@ fn legal_entry(tree: &[u32], root: usize, j: usize) -> bool
 pub fn is_tree(tree: &[u32], root: usize) -> bool
     ensures { result ≡ is_tree (length tree.now) root tree.now }
 {
-    let mut j = 0;
-    while j < tree.len() {
-        if !legal_entry(tree, root, j) {
-            return false;
-        }
-        j += 1;
-    }
-    true
+    (0..tree.len()).all(|j| legal_entry(tree, root, j))
 }

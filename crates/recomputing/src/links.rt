@@ -27,10 +27,8 @@ fn own_row(count: usize, costs: [u32; UNITS]) -> [u32; UNITS]
     ensures { result ≡ filled unit_limit (own_links count costs) }
 {
     let mut row = [0u32; UNITS];
-    let mut j = 0;
-    while j < count {
+    for j in 0..count {
         row[j] = legal_link(costs[j]);
-        j += 1;
     }
     row
 }
@@ -51,10 +49,8 @@ fn copied_row(copy: [u32; UNITS], count: usize, i: usize) -> [u32; UNITS]
     ensures { result ≡ filled unit_limit (tab count (λ j. link_from i (at copy j))) }
 {
     let mut row = [0u32; UNITS];
-    let mut j = 0;
-    while j < count {
+    for j in 0..count {
         row[j] = link_from(i, copy[j]);
-        j += 1;
     }
     row
 }
@@ -71,8 +67,7 @@ pub(crate) fn taken_links(
     ensures { result ≡ filled_rows unit_limit (legal_taken count me costs (copies_in count copies.now) preferences) }
 {
     let mut rows = [[0u32; UNITS]; UNITS];
-    let mut i = 0;
-    while i < count {
+    for i in 0..count {
         let preference = preferences[i] as usize;
         if i == me {
             rows[i] = own_row(count, costs);
@@ -81,7 +76,6 @@ pub(crate) fn taken_links(
         } else {
             rows[i] = copied_row(copies::copy_of(copies, preference), count, i);
         }
-        i += 1;
     }
     rows
 }

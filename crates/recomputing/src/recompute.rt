@@ -27,12 +27,10 @@ fn entry_over(
     if distances[j] == FAR {
         return 0;
     }
-    let mut i = 0;
-    while i < count {
+    for i in 0..count {
         if heads::plus(distances[i], links[i][j]) == distances[j] {
             return (i as u32) * ENTRY_BASE + links[i][j];
         }
-        i += 1;
     }
     0
 }
@@ -47,10 +45,8 @@ fn tree_over(
     ensures { result ≡ filled unit_limit (tree_over count me links distances) }
 {
     let mut row = [0u32; UNITS];
-    let mut j = 0;
-    while j < count {
+    for j in 0..count {
         row[j] = entry_over(count, links, distances, me, j);
-        j += 1;
     }
     row
 }

@@ -16,10 +16,8 @@ fn start(count: usize, me: usize) -> [u32; UNITS]
     ensures { result ≡ filled unit_limit (at_start count me) }
 {
     let mut distances = [0u32; UNITS];
-    let mut j = 0;
-    while j < count {
+    for j in 0..count {
         distances[j] = if j == me { 0 } else { FAR };
-        j += 1;
     }
     distances
 }
@@ -30,8 +28,7 @@ fn nearest(count: usize, distances: [u32; UNITS], settled: [bool; UNITS]) -> usi
     ensures { Nearest count distances settled result }
 {
     let mut best = count;
-    let mut j = 0;
-    while j < count {
+    for j in 0..count {
         if !settled[j] {
             if best == count {
                 best = j;
@@ -39,7 +36,6 @@ fn nearest(count: usize, distances: [u32; UNITS], settled: [bool; UNITS]) -> usi
                 best = j;
             }
         }
-        j += 1;
     }
     best
 }
@@ -51,15 +47,13 @@ fn relax(count: usize, distances: [u32; UNITS], i: usize, row: [u32; UNITS]) -> 
 {
     let base = distances[i];
     let mut lower = [0u32; UNITS];
-    let mut j = 0;
-    while j < count {
+    for j in 0..count {
         let offer = heads::plus(base, row[j]);
         lower[j] = if offer < distances[j] {
             offer
         } else {
             distances[j]
         };
-        j += 1;
     }
     lower
 }
@@ -70,8 +64,7 @@ pub(crate) fn shortest(count: usize, me: usize, links: [[u32; UNITS]; UNITS]) ->
 {
     let mut distances = start(count, me);
     let mut settled = [false; UNITS];
-    let mut done = 0;
-    while done < count {
+    for _ in 0..count {
         let i = nearest(count, distances, settled);
         if i < count {
             let row = links[i];
@@ -79,7 +72,6 @@ pub(crate) fn shortest(count: usize, me: usize, links: [[u32; UNITS]; UNITS]) ->
             distances = lower;
             settled[i] = true;
         }
-        done += 1;
     }
     distances
 }

@@ -13,13 +13,11 @@ fn set_over(count: usize, through: [[u32; UNITS]; UNITS], feasible: [u32; UNITS]
 {
     let mut set: u32 = 0;
     let mut bit: u32 = 1;
-    let mut k = 0;
-    while k < count {
+    for k in 0..count {
         if through[k][j] < feasible[j] {
             set += bit;
         }
         bit *= 2;
-        k += 1;
     }
     set
 }
@@ -36,10 +34,8 @@ pub fn sets_over(
     if UNITS < count {
         return sets;
     }
-    let mut j = 0;
-    while j < count {
+    for j in 0..count {
         sets[j] = set_over(count, through, feasible, j);
-        j += 1;
     }
     sets
 }

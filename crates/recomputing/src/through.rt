@@ -14,11 +14,7 @@ pub(crate) fn far_row(count: usize) -> [u32; UNITS]
     ensures { result ≡ filled unit_limit (tab count (λ j. far)) }
 {
     let mut row = [0u32; UNITS];
-    let mut j = 0;
-    while j < count {
-        row[j] = FAR;
-        j += 1;
-    }
+    row[..count].fill(FAR);
     row
 }
 
@@ -37,14 +33,12 @@ pub fn through_neighbours(
     if copies.len() != COPIES {
         return rows;
     }
-    let mut k = 0;
-    while k < count {
+    for k in 0..count {
         if costs[k] == 0 {
             rows[k] = far_row(count);
         } else {
             rows[k] = copies::distances(copies, count, k);
         }
-        k += 1;
     }
     rows
 }
@@ -56,14 +50,12 @@ fn preferred_for(count: usize, costs: [u32; UNITS], through: [[u32; UNITS]; UNIT
 {
     let mut nearest = FAR;
     let mut best = count;
-    let mut k = 0;
-    while k < count {
+    for k in 0..count {
         let sum = heads::plus(costs[k], through[k][j]);
         if sum < nearest {
             nearest = sum;
             best = k;
         }
-        k += 1;
     }
     best as u32
 }
@@ -77,10 +69,8 @@ pub(crate) fn preferred(
     ensures { result ≡ filled unit_limit (preferences count costs through) }
 {
     let mut row = [0u32; UNITS];
-    let mut j = 0;
-    while j < count {
+    for j in 0..count {
         row[j] = preferred_for(count, costs, through, j);
-        j += 1;
     }
     row
 }

@@ -1,10 +1,7 @@
 -- The invariant: of the units passed, the nearest that isn't settled.
-use Prim.Native.Nat.{◌-◌, ◌≤◌}
+use Prim.Native.Nat.{◌≤◌}
 use Rattle.recomputing.proofs.Choosing.{Chosen}
 use Rattle.recomputing.proofs.shortest.nearest.Given as goal
 
 abbrev pub invariant-loop-j : goal.invariant-loop-j
-invariant-loop-j l = (l.j ≤ l.count) × (l.best ≤ l.count) × Chosen l.count l.distances l.settled l.j l.best
-
-abbrev pub decreases-loop-j : goal.decreases-loop-j
-decreases-loop-j l = l.count - l.j
+invariant-loop-j l = (l.best ≤ l.count) × Chosen l.count l.distances l.settled l.j l.best

@@ -1,33 +1,24 @@
 -- `recomputing::shortest::shortest` meets its contract. The invariant: what settling units, nearest first, has made of the arrays.
-use Prim.Native.Nat.{◌-◌}
 use native.Mathlib.Omega.{arith}
 use mathlib.Core.Path.{◌≡◌}
-use borrow.Author.Rules.{rules}
-use Rattle.ground.specs.Rows.{at}
 use Rattle.recomputing.proofs.Rounds.{turned_none, turned_more, turned_all, turned_done}
 use Rattle.recomputing.proofs.shortest.shortest.Goals as goal
 use Rattle.recomputing.proofs.shortest.shortest.Goals.{then-i-count, else-i-count}
 
-pub loop-done-init : goal.loop-done-init
-loop-done-init c = (search rules, rw c.start-distances.ensures (turned_none c.requires.1))
+pub loop-init : goal.loop-init
+loop-init c = rw c.start-distances.ensures (turned_none c.requires.1)
 
-pub loop-done-preserved : goal.loop-done-preserved
-loop-done-preserved c =
-    let here = c.loop-done in
+pub loop-preserved : goal.loop-preserved
+loop-preserved c =
+    let here = c.loop in
     let nearest = c.nearest-i in
     elim c.if-i-count.branch [
-      | then-i-count w ↦ (
-        search rules,
-        rw (w.distances-is, w.settled-is, w.relax-lower.ensures)
-            (turned_more here.invariant.1 nearest.ensures w.if-i-count.true c.requires.0 c.requires.1),
-      )
-      | else-i-count w ↦ (
-        search rules,
-        rw (w.distances-is, w.settled-is) (turned_all here.invariant.1 nearest.ensures w.if-i-count.false),
-      )
+      | then-i-count w ↦ rw (w.distances-is, w.settled-is, w.relax-lower.ensures)
+          (turned_more here.invariant nearest.ensures w.if-i-count.true c.requires.0 c.requires.1)
+      | else-i-count w ↦ rw (w.distances-is, w.settled-is) (turned_all here.invariant nearest.ensures w.if-i-count.false)
     ]
 
 pub returns : goal.returns
 returns c =
-    let all : c.loop-done.done ≡ c.args.count = omega arith in
-    turned_done (rw all at c.loop-done.invariant.1) c.requires.2 c.requires.1
+    let all : c.loop.counter ≡ c.args.count = omega arith in
+    turned_done (rw all at c.loop.invariant) c.requires.2 c.requires.1

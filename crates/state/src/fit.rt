@@ -1,6 +1,7 @@
 // Whether a unit's table is fit: what it holds is within the rules, and it is exactly what that unit lays out.
-ghost use Rattle.std.specs.Prelude.{◌≡◌, ◌≤◌, ◌<◌};
-ghost use Rattle.ground.specs.Limits.{unit_limit};
+ghost use Rattle.std.specs.Prelude.{◌||◌, ◌≡◌, ◌≤◌, ◌<◌, eqb, leb};
+ghost use Rattle.std.specs.Prelude.{if◌then◌else◌};
+ghost use Rattle.ground.specs.Limits.{unit_limit, far, longest};
 ghost use Rattle.ground.specs.Rows.{every};
 ghost use Rattle.rules.specs.Tables.{fit_unit_table};
 ghost use Rattle.rules.specs.Unit.{fit_link, fit_feasible, fit_unit};
@@ -44,39 +45,24 @@ fn fit_links(unit: Held) -> bool
     requires { unit.count ≤ unit_limit }
     ensures { result ≡ every unit.count (fit_link (unit_of unit)) }
 {
-    let count = unit.count;
-    let mut k = 0;
-    while k < count {
-        if !fit_link(unit, k) {
-            return false;
-        }
-        k += 1;
-    }
-    true
+    (0..unit.count).all(|k| fit_link(unit, k))
 }
 
-// Feasible distances: 0 to itself, else unreachable or at most the longest.
+// A feasible distance to unit j: 0 to the unit itself, else unreachable or at most the longest.
+fn fit_distance(me: usize, j: usize, distance: u32) -> bool
+    ensures { result ≡ (if eqb j me then eqb distance 0 else eqb distance far || leb distance longest) }
+{
+    if j == me {
+        return distance == 0;
+    }
+    distance == FAR || distance <= LONGEST
+}
+
 fn fit_feasible(unit: Held) -> bool
     requires { unit.count ≤ unit_limit }
     ensures { result ≡ every unit.count (fit_feasible (unit_of unit)) }
 {
-    let count = unit.count;
-    let me = unit.me;
-    let feasible = unit.feasible;
-    let mut j = 0;
-    while j < count {
-        if j == me {
-            if feasible[j] != 0 {
-                return false;
-            }
-        } else if feasible[j] != FAR {
-            if LONGEST < feasible[j] {
-                return false;
-            }
-        }
-        j += 1;
-    }
-    true
+    (0..unit.count).all(|j| fit_distance(unit.me, j, unit.feasible[j]))
 }
 
 fn fit_unit(unit: Held) -> bool

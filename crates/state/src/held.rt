@@ -53,14 +53,12 @@ fn copies(table: &[u32], count: usize) -> [u32; COPIES]
     ensures { result ≡ flat_copies count table.now }
 {
     let mut numbers = [0u32; COPIES];
-    let mut i = 0;
-    while i < COPIES {
+    for i in 0..COPIES {
         if i / UNITS < count {
             if i % UNITS < count {
                 numbers[i] = table[COPY + i];
             }
         }
-        i += 1;
     }
     numbers
 }

@@ -29,10 +29,8 @@ fn fresh_feasible(count: usize, me: usize) -> [u32; UNITS]
     ensures { result ≡ laid_row (fresh_unit count me).feasible }
 {
     let mut row = [0u32; UNITS];
-    let mut j = 0;
-    while j < count {
+    for j in 0..count {
         row[j] = if j == me { 0 } else { FAR };
-        j += 1;
     }
     row
 }

@@ -71,11 +71,9 @@ fn put_joined(out: &mut [u8], used: usize, set: u32, count: u32) -> Listed
 {
     let mut then = Listed { used, some: false };
     let mut rest = set;
-    let mut k = 0;
-    while k < count {
+    for k in 0..count {
         then = put_member(out, then, k, rest % 2 == 1);
         rest /= 2;
-        k += 1;
     }
     then
 }

@@ -11,7 +11,7 @@ use lib.ListN.{length, take, drop, length-take, length-drop}
 use lib.Seq.{take_all}
 use Rattle.std.specs.Prelude.{if◌then◌else◌}
 use Rattle.ground.proofs.Lists.{parts}
-use Rattle.ground.proofs.Rows.{lowest_le, same_eq}
+use Rattle.ground.proofs.Rows.{same_eq}
 use Rattle.ground.proofs.Tests.{less_or_not, not_yes}
 use Rattle.lines.specs.Commands.{is_arguments, is_spelled, longest_command, meter_command_of, command_of}
 use Rattle.lines.specs.Words.{word_end, first_word, after_word, digit_limit}
@@ -19,11 +19,7 @@ use Rattle.lines.specs.Words.{units_name, up_name, cost_name, down_name, deliver
 use Rattle.lines.specs.Words.{enter_name, move_name, drop_name, page_name}
 use Rattle.lines.specs.declared.Command.TheVariants.{Bad}
 use Rattle.lines.proofs.Decimals.{decimal_short}
-
--- A word ends within its line.
-end_inside : (line : List ℕ) → word_end line ≤ length line
-unfolding word_end
-end_inside line = lowest_le (length line) _
+use Rattle.lines.proofs.Words.{end_inside}
 
 -- A line is its first word and what follows it.
 word_parts : (line : List ℕ) → length (first_word line) + length (after_word line) ≡ length line

@@ -46,41 +46,16 @@ fn word_end(line: &[u8]) -> usize
     ensures end { result ≡ word_end line.now }
     ensures inside { result ≤ length line.now }
 {
-    let mut i = 0;
-    while i < line.len() {
-        if line[i] == b' ' {
-            return i;
-        }
-        i += 1;
-    }
-    i
-}
-
-// The byte after the digits.
-const PAST_DIGITS: u8 = b'0' + 10;
-
-// Whether a byte is a digit.
-fn is_digit(byte: u8) -> bool
-    ensures { result ≡ is_digit byte }
-{
-    if byte < b'0' {
-        return false;
-    }
-    byte < PAST_DIGITS
+    line.iter()
+        .position(|byte| *byte == b' ')
+        .unwrap_or(line.len())
 }
 
 // Whether a word is of digits only.
 fn are_digits(word: &[u8]) -> bool
     ensures { result ≡ every (length word.now) (λ i. is_digit (at word.now i)) }
 {
-    let mut i = 0;
-    while i < word.len() {
-        if !is_digit(word[i]) {
-            return false;
-        }
-        i += 1;
-    }
-    true
+    word.iter().all(|byte| byte.is_ascii_digit())
 }
 
 // Whether a word is a decimal of at most DIGITS digits without leading zeros.
@@ -107,10 +82,8 @@ fn value(word: &[u8]) -> u32
     ensures { result ≡ value_of word.now }
 {
     let mut number: u32 = 0;
-    let mut i = 0;
-    while i < word.len() {
-        number = number * 10 + (word[i] - b'0') as u32;
-        i += 1;
+    for &byte in word {
+        number = number * 10 + (byte - b'0') as u32;
     }
     number
 }
@@ -122,6 +95,7 @@ fn arguments(rest: &[u8]) -> Found
     let mut list = [0u32; ARGUMENTS];
     let mut count = 0;
     let mut used = 0;
+    // Each turn takes a space and a word, so the place moves on by the word's length.
     while used < rest.len() {
         if count == ARGUMENTS {
             return Found {

@@ -1,30 +1,22 @@
--- `lines::are_digits` meets its contract. The invariant: every byte before `i` is a digit.
-use Prim.Native.Nat.{◌-◌}
-use native.Mathlib.Omega.{arith}
-use mathlib.Core.Bool.{true}
-use mathlib.Core.Path.{◌≡◌, refl, sym, ◌∙◌}
+-- `lines::are_digits` meets its contract: the chain asks the definition's test of every byte.
+use Prim.Native.Nat.compare
+use mathlib.Core.Bool.{◌&&◌}
+use mathlib.Core.Path.{◌≡◌, sym, ap, ◌∙◌}
+use lib.Dec.{leb, is_le}
+use Rattle.ground.specs.Bytes.{digit_zero}
+use Prim.Native.Nat.{ℕ}
 use borrow.Author.Rules.{rules}
-use lib.ListN.{length}
-use Rattle.ground.proofs.Rows.{every_more, every_not}
+use borrow.Author.Tests.{tests}
+use Rattle.std.specs.Char.{is_ascii_digit}
+use Rattle.ground.proofs.Chains.{all_numbers}
 use Rattle.lines.specs.Words.{is_digit}
 use Rattle.lines.proofs.are_digits.Goals as goal
 
-pub loop-i-init : goal.loop-i-init
-loop-i-init c = (search rules, refl)
-
-pub returns-then-not-is_digit : goal.returns-then-not-is_digit
-returns-then-not-is_digit c =
-    let here = c.loop-i in
-    sym
-    (every_not _ _ here.i c.loop-i-test.true
-    (sym c.is_digit.ensures ∙ c.if-not-is_digit.true))
-
-pub loop-i-preserved : goal.loop-i-preserved
-loop-i-preserved c =
-    let here = c.loop-i in
-    (search rules, every_more here.i _ here.invariant.1 (sym c.is_digit.ensures ∙ c.if-not-is_digit.false))
+-- The library's test of a digit is the rules'.
+ascii_digit : (c : ℕ) → is_ascii_digit c ≡ is_digit c
+ascii_digit c = ap (λ o. leb digit_zero c && is_le o) (sym (compare.suc-suc c 57))
 
 pub returns : goal.returns
 returns c =
-    let all : c.loop-i.i ≡ length c.args.word.now = omega arith in
-    rw (← all) (sym c.loop-i.invariant.1)
+    all_numbers is_digit c.args.word.now _ _ _ c.all.ensures.ran (search rules)
+    (λ x b q k. let told : b ≡ is_ascii_digit x.now = search (rules, tests) in (search rules, told ∙ ascii_digit x.now))

@@ -1,24 +1,20 @@
--- `lines::word_end` meets its contract. The invariant: there is no space before `i`.
-use Prim.Native.Nat.{◌-◌}
-use native.Mathlib.Nat.{not-suc-le-zero}
+-- `lines::word_end` meets its contract: the chain finds the definition's place.
 use native.Mathlib.Omega.{arith}
+use mathlib.Core.Path.{◌≡◌, ◌∙◌}
 use borrow.Author.Rules.{rules}
-use Rattle.lines.proofs.Words.{unbroken_more, word_ends}
+use borrow.Author.Tests.{tests}
+use lib.Dec.{eqb}
+use Rattle.ground.specs.Bytes.{space}
+use Rattle.ground.proofs.Chains.{position_or_end}
+use Rattle.lines.specs.Words.{word_end}
+use Rattle.lines.proofs.Words.{end_inside}
 use Rattle.lines.proofs.word_end.Goals as goal
 
-pub loop-i-init : goal.loop-i-init
-loop-i-init c = (search rules, λ j l. absurd (not-suc-le-zero l))
-
-pub returns-then-line-i-eq32 : goal.returns-then-line-i-eq32
-returns-then-line-i-eq32 c =
-    let here = c.loop-i in
-    record { end = word_ends _ here.i here.invariant.0 here.invariant.1 (λ l. c.if-line-i-eq32.true); inside = here.invariant.0 }
-
-pub loop-i-preserved : goal.loop-i-preserved
-loop-i-preserved c =
-    (search rules, unbroken_more c.args.line.now c.loop-i.i c.loop-i.invariant.1 c.if-line-i-eq32.false)
-
 pub returns : goal.returns
+unfolding word_end
 returns c =
-    let here = c.loop-i in
-    record { end = word_ends _ here.i here.invariant.0 here.invariant.1 (λ l. absurd (omega arith)); inside = here.invariant.0 }
+    let line = c.args.line.now in
+    let found : c.unwrap_or.result ≡ word_end line =
+    c.unwrap_or.ensures
+    ∙ position_or_end (λ byte. eqb byte space) line _ _ _ c.position.ensures.ran (search rules) (λ x b q k. search (rules, tests)) in
+    record { end = found; inside = omega (arith, found, end_inside line) }

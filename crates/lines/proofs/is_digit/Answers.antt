@@ -1,9 +1,0 @@
--- `lines::is_digit` meets its contract: both returns are the tests of the definition.
-use borrow.Author.Tests.{le-leb, lt-leb}
-use Rattle.lines.proofs.is_digit.Goals as goal
-
-pub returns-then-byte-lt48 : goal.returns-then-byte-lt48
-returns-then-byte-lt48 c = simp (lt-leb _ _ c.if-byte-lt48.true)
-
-pub returns : goal.returns
-returns c = simp (le-leb _ _ c.if-byte-lt48.false)

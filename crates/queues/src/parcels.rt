@@ -52,14 +52,12 @@ pub fn has_room(queues: &[u8], count: usize, i: usize, sent: &[u8], used: usize)
     ensures { result ≡ has_room queues.now count i sent.now used }
 {
     let mut place = 0;
-    let mut k = 0;
-    while k < count {
+    for k in 0..count {
         let parcel = parcel_at(sent, used, k, place);
         if is_full(queues, i, k, parcel) {
             return false;
         }
         place += parcel;
-        k += 1;
     }
     true
 }
@@ -82,11 +80,9 @@ pub fn send(queues: &mut [u8], count: usize, i: usize, sent: &[u8], used: usize)
     ensures { queues.new ≡ sent_to queues.old i sent.now used count }
 {
     let mut place = 0;
-    let mut k = 0;
-    while k < count {
+    for k in 0..count {
         let parcel = parcel_at(sent, used, k, place);
         send_one(queues, i, k, sent, place, parcel);
         place += parcel;
-        k += 1;
     }
 }

@@ -9,18 +9,11 @@ ghost use Rattle.queues.specs.Queue.{has_queue, queue_of, with_bytes, held_in, p
 use ground::{MESSAGE_ROOM, NETWORK_BYTES, QUEUE_BYTES, QUEUE_ROOM, UNITS};
 use slices::bytes;
 
-// A number of units, no more than there may be.
-fn at_most_all(i: usize) -> usize
-    ensures { result ≡ min i unit_limit }
-{
-    if UNITS < i { UNITS } else { i }
-}
-
 // Where the queue from a to b begins. A number above the limit counts as the limit.
 pub fn begins(a: usize, b: usize) -> usize
     ensures { result ≡ queue_at (min a unit_limit) (min b unit_limit) }
 {
-    (at_most_all(a) * UNITS + at_most_all(b)) * QUEUE_BYTES
+    (a.min(UNITS) * UNITS + b.min(UNITS)) * QUEUE_BYTES
 }
 
 // Whether the bytes are those of all queues, and one of these leads from a to b.
@@ -63,8 +56,7 @@ pub(crate) fn put(queues: &mut [u8], a: usize, b: usize, queue: [u8; QUEUE_BYTES
 pub fn held(queue: &[u8]) -> usize
     ensures { result ≡ held_in queue.now }
 {
-    let mut i = 0;
-    while i < QUEUE_ROOM {
+    for i in 0..QUEUE_ROOM {
         let place = i * MESSAGE_ROOM;
         if queue.len() <= place {
             return i;
@@ -72,7 +64,6 @@ pub fn held(queue: &[u8]) -> usize
         if queue[place] == 0 {
             return i;
         }
-        i += 1;
     }
     QUEUE_ROOM
 }

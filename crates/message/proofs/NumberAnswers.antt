@@ -4,10 +4,11 @@ use native.Mathlib.Omega.{arith}
 use mathlib.Core.Bool.{Bool, true, false}
 use mathlib.Core.List.{List, [], ◌∷◌, ◌++◌}
 use mathlib.Core.Path.{◌≡◌, refl, sym, ap, ◌∙◌}
+use borrow.Rule.Slice.PartMut.{put_mid}
 use borrow.Author.Tests.{eqb-true, leb-true, lt-ltb, le-ltb}
 use lib.Dec.{eqb, ltb, leb}
-use lib.ListN.{length, set, drop, length-set}
-use lib.Seq.{paste, sets-eq, take_all, drop-drop}
+use lib.ListN.{length, set, drop}
+use lib.Seq.{sets-eq, drop-drop}
 use Rattle.std.specs.Prelude.{if◌then◌else◌}
 use Rattle.ground.specs.Limits.{unit_limit, entry_limit, legal_count, message_room}
 use Rattle.ground.specs.Refusal.{accepted, answer_base}
@@ -80,21 +81,15 @@ module _
     pub length_by : {bytes : ℕ} → answer ≡ Length bytes → write_answer (Length bytes) ≡ write_answer (writing_of n m places offset)
     length_by e = ap write_answer (sym e ∙ told)
 
--- Three stores keep the length.
-pub stored_length : (kind sender entries : ℕ) (fields : List ℕ) → length (set (set (set fields 0 kind) 1 sender) 2 entries) ≡ length fields
-stored_length kind sender entries fields = simp length-set
-
--- Three stores, and the copy of the changes after them.
-module _ (kind sender entries : ℕ) (changes fields : List ℕ) (full : length changes ≡ entry_limit) (room : field_places ≤ length fields) where
-  led : set (set (set fields 0 kind) 1 sender) 2 entries ≡ kind ∷ sender ∷ entries ∷ drop leading fields
-  led = sets-eq (kind ∷ sender ∷ entries ∷ []) fields 0 (omega arith)
-
-  pub all_laid : paste (set (set (set fields 0 kind) 1 sender) 2 entries) leading changes entry_limit
-      ≡ laid_fields kind sender entries changes fields
-  unfolding laid_fields
-  all_laid =
-      rw (led, take_all entry_limit changes (omega arith))
-      (ap (λ (rest : List ℕ). (kind ∷ sender ∷ entries ∷ changes) ++ rest) (drop-drop entry_limit leading fields))
+-- Three stores, and the changes after them.
+pub all_laid : (kind sender entries : ℕ) (changes fields : List ℕ) → field_places ≤ length fields
+    → put_mid leading entry_limit (set (set (set fields 0 kind) 1 sender) 2 entries) changes
+    ≡ laid_fields kind sender entries changes fields
+unfolding laid_fields
+all_laid kind sender entries changes fields room =
+    let led : set (set (set fields 0 kind) 1 sender) 2 entries ≡ kind ∷ sender ∷ entries ∷ drop leading fields =
+    sets-eq (kind ∷ sender ∷ entries ∷ []) fields 0 (omega arith) in
+    rw led (ap (λ (rest : List ℕ). (kind ∷ sender ∷ entries ∷ changes) ++ rest) (drop-drop entry_limit leading fields))
 
 -- What a message that was found leaves: an answer that fits, and the table with the message's fields.
 pub record Found (n : ℕ) (bytes fields : List ℕ) (kind sender entries : ℕ) (changes : List ℕ) : Type 0 where

@@ -1,6 +1,5 @@
 -- What the writer's tests and stores come to: which refusal, the message's bytes one store after the other, and what is said.
 use Prim.Native.Nat.{ℕ, ◌+◌, ◌-◌, ◌*◌, ◌/◌, ◌%◌, ◌≤◌, ◌<◌}
-use native.Mathlib.Nat.{zero-add}
 use native.Mathlib.Numerals.{add-one}
 use native.Mathlib.Omega.{arith}
 use mathlib.Core.Bool.{Bool, true, false, not}
@@ -12,8 +11,8 @@ use mir.Val.{Fits}
 use borrow.Author.Tests.{ne_eqb, le-ltb, lt-ltb, ltb-false, leb-true, not-false}
 use borrow.Rule.Slice.PartMut.{put_mid}
 use lib.Dec.{leb, ltb}
-use lib.ListN.{length, get_or, set, take, drop, length-append, length-map}
-use lib.Seq.{take-suc, length-take-le, paste-suc, drop-drop}
+use lib.ListN.{length, set, take, drop, length-append, length-map}
+use lib.Seq.{take-suc, length-take-le, drop-drop}
 use Rattle.std.specs.Prelude.{if◌then◌else◌}
 use Rattle.ground.specs.Limits.{legal_count, unit_limit, message_room, entry_base, change_base}
 use Rattle.ground.specs.Refusal.{accepted, ◌gives◌, ◌otherwise◌}
@@ -127,13 +126,6 @@ low_byte x h = omega arith
 
 pub high_byte : (c : ℕ) → Fits w32 c → c / change_base % 256 ≡ changed_unit c
 high_byte c h = omega (arith, h)
-
--- A turn of the loop that copies to the start of a place.
-pub copied_more : (built place : List ℕ) (i : ℕ) → i < length built → i < length place
-    → set (take i built ++ drop i place) i (get_or built i 0) ≡ take (i + 1) built ++ drop (i + 1) place
-copied_more built place i from to =
-    let store = paste-suc place 0 built i 0 (rw zero-add to) from in
-    rw add-one (simp zero-add at store)
 
 -- What is known of a message that the writer does not refuse: it fits, and there is room for it from the offset on.
 pub record Writable (m : Message) (places offset : ℕ) : Type 0 where

@@ -48,14 +48,11 @@ fn legal_changes(count: u32, sender: u32, changes: &[u32]) -> bool
     ensures { result ≡ legal_changes count sender changes.now }
 {
     let mut lowest: u32 = 0;
-    let mut i = 0;
-    while i < changes.len() {
-        let change = changes[i];
+    for &change in changes {
         if !legal_change(count, sender, lowest, change) {
             return false;
         }
         lowest = change / CHANGE_BASE + 1;
-        i += 1;
     }
     true
 }

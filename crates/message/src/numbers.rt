@@ -57,11 +57,7 @@ fn lay_fields(kind: u32, sender: u32, entries: u32, changes: &[u32], fields: &mu
     fields[0] = kind;
     fields[1] = sender;
     fields[2] = entries;
-    let mut i = 0;
-    while i < ENTRIES {
-        fields[LEADING + i] = changes[i];
-        i += 1;
-    }
+    fields[LEADING..FIELDS].copy_from_slice(changes);
 }
 
 // Takes exactly one message of a network of `count` units from the bytes and lays its fields at the start of `fields`;

@@ -90,10 +90,8 @@ fn changes_in(bytes: &[u8], entries: usize) -> [u32; ENTRIES]
     ensures { result ≡ filled entry_limit (tab entries (change_at bytes.now entries)) }
 {
     let mut changes = [0u32; ENTRIES];
-    let mut i = 0;
-    while i < entries {
+    for i in 0..entries {
         changes[i] = change_at(bytes, entries, i);
-        i += 1;
     }
     changes
 }

@@ -1,5 +1,5 @@
 // The writer: one message to bytes, laid into the caller's frame from an offset on.
-ghost use Rattle.std.specs.Prelude.{◌++◌, ◌≡◌, ◌+◌, ◌*◌, ◌≤◌, length, take, drop};
+ghost use Rattle.std.specs.Prelude.{◌≡◌, ◌+◌, ◌*◌, ◌≤◌, length};
 ghost use Rattle.ground.specs.Limits.{message_room};
 ghost use Rattle.ground.specs.Rows.{filled};
 ghost use Rattle.ground.specs.Said.{said};
@@ -60,10 +60,8 @@ fn contents(kind: u32, sender: u32, changes: &[u32]) -> [u8; MESSAGE_ROOM]
     built[1] = (sender % 256) as u8;
     built[2] = (kind % 256) as u8;
     built[3] = (changes.len() % 256) as u8;
-    let mut i = 0;
-    while i < changes.len() {
-        built[4 + i] = (changes[i] / CHANGE_BASE % 256) as u8;
-        i += 1;
+    for (i, &change) in changes.iter().enumerate() {
+        built[4 + i] = (change / CHANGE_BASE % 256) as u8;
     }
     built
 }
@@ -74,28 +72,13 @@ fn build(kind: u32, sender: u32, changes: &[u32]) -> [u8; MESSAGE_ROOM]
     ensures { result ≡ filled message_room (written (fields_of kind sender changes.now)) }
 {
     let mut built = contents(kind, sender, changes);
-    let mut i = 0;
-    while i < changes.len() {
-        let change = changes[i];
+    for (i, &change) in changes.iter().enumerate() {
         let at = 4 + changes.len() + 3 * i;
         built[at] = (change / ENTRY_BASE % 256) as u8;
         built[at + 1] = (change / 256 % 256) as u8;
         built[at + 2] = (change % 256) as u8;
-        i += 1;
     }
     built
-}
-
-// The first `bytes` bytes of `built`, to the start of `place`.
-fn copy(built: &[u8], bytes: usize, place: &mut [u8])
-    requires { (bytes ≤ length built.now) × (bytes ≤ length place.old) }
-    ensures { place.new ≡ take bytes built.now ++ drop bytes place.old }
-{
-    let mut i = 0;
-    while i < bytes {
-        place[i] = built[i];
-        i += 1;
-    }
 }
 
 // The message at the start of `place`.
@@ -104,7 +87,8 @@ fn lay(kind: u32, sender: u32, changes: &[u32], place: &mut [u8])
     ensures { place.new ≡ laid_at_start (fields_of kind sender changes.now) place.old }
 {
     let built = build(kind, sender, changes);
-    copy(&built, 4 + 4 * changes.len(), place);
+    let bytes = 4 + 4 * changes.len();
+    place[..bytes].copy_from_slice(&built[..bytes]);
 }
 
 // Lays the message with these fields into the frame from `offset` on; bytes before and after it stay.

@@ -1,6 +1,6 @@
--- What chains that ask a test of all numbers below a count, or of all elements of a slice, answer: `every` of
--- specs/Rows.antt, in which contracts ask it. They take the call's clause `ran`, and that the closure answers the test.
-use Prim.Native.Nat.{ℕ, zero, suc, ◌-◌, ◌≤◌}
+-- What chains answer that ask a test of the numbers below a count, or of a slice's elements: `every` and `lowest` of
+-- specs/Rows.antt, by which contracts ask it. Each law takes the call's clause `ran`, and that the closure answers the test.
+use Prim.Native.Nat.{ℕ, zero, suc, ◌≤◌}
 use native.Mathlib.Omega.{arith}
 use mathlib.Core.Bool.{Bool, cond, ◌&&◌}
 use mathlib.Core.List.{List, [], ◌∷◌}
@@ -69,7 +69,7 @@ first_number : (p : ℕ → Bool) (xs : List ℕ) → position_or_len p xs ≡ l
 first_number p xs =
     position_or_len_is p xs _ 0 (lowest_le (length xs) _) (lowest_first (length xs) _) (lowest_holds (length xs) _)
 
--- A number that is said where it is below n, and n else, is the lesser of both.
+-- A place of at most n, said where it is below n, and n else, is the place.
 or_end : (k n : ℕ) → k ≤ n → unwrap_or (cond (ltb k n) (Some k) None) n ≡ k
 or_end k n h = ⊎_elim (λ l. rw (lt-ltb k n l) refl) (λ l. rw (le-ltb k n l) (omega arith)) (less_or_not k n)
 

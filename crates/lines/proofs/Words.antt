@@ -1,17 +1,9 @@
 -- The first word of a line: where it ends is within the line, and the parts of the line that are lent before and after that
 -- place are the word and what follows it.
-use Prim.Native.Nat.{ℕ, ◌+◌, ◌-◌, ◌≤◌, ◌<◌}
-use native.Mathlib.Numerals.{add-one}
-use mathlib.Core.Bool.{false}
+use Prim.Native.Nat.{ℕ, ◌-◌, ◌≤◌}
 use mathlib.Core.List.{List}
-use mathlib.Core.Logic.{⊎_elim, ◌≢◌}
-use mathlib.Core.Path.{◌≡◌, sym, ap, ◌∙◌}
-use borrow.Author.Tests.{eq-eqb, ne_eqb}
-use lib.Dec.{eqb}
+use mathlib.Core.Path.{◌≡◌, ap, ◌∙◌}
 use lib.ListN.{length, take, drop}
-use Rattle.ground.specs.Bytes.{space}
-use Rattle.ground.specs.Rows.{at}
-use Rattle.ground.proofs.Lists.{lowest_is}
 use Rattle.ground.proofs.Parts.{to_end}
 use Rattle.ground.proofs.Rows.{lowest_le}
 use Rattle.lines.specs.Words.{word_end, first_word, after_word}

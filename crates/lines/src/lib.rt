@@ -44,7 +44,9 @@ fn word_end(line: &[u8]) -> usize
     ensures end { result ≡ word_end line.now }
     ensures inside { result ≤ length line.now }
 {
-    line.iter().position(|byte| *byte == b' ').unwrap_or(line.len())
+    line.iter()
+        .position(|byte| *byte == b' ')
+        .unwrap_or(line.len())
 }
 
 // Whether a word is of digits only.
@@ -91,6 +93,7 @@ fn arguments(rest: &[u8]) -> Found
     let mut list = [0u32; ARGUMENTS];
     let mut count = 0;
     let mut used = 0;
+    // Each turn takes a space and a word, so the place moves on by the word's length.
     while used < rest.len() {
         if count == ARGUMENTS {
             return Found {

@@ -1,6 +1,5 @@
 -- What the writer's tests and stores come to: which refusal, the message's bytes one store after the other, and what is said.
 use Prim.Native.Nat.{ℕ, ◌+◌, ◌-◌, ◌*◌, ◌/◌, ◌%◌, ◌≤◌, ◌<◌}
-use native.Mathlib.Nat.{zero-add}
 use native.Mathlib.Numerals.{add-one}
 use native.Mathlib.Omega.{arith}
 use mathlib.Core.Bool.{Bool, true, false, not}
@@ -12,8 +11,8 @@ use mir.Val.{Fits}
 use borrow.Author.Tests.{ne_eqb, le-ltb, lt-ltb, ltb-false, leb-true, not-false}
 use borrow.Rule.Slice.PartMut.{put_mid}
 use lib.Dec.{leb, ltb}
-use lib.ListN.{length, get_or, set, take, drop, length-append, length-map}
-use lib.Seq.{take-suc, length-take-le, paste-suc, drop-drop}
+use lib.ListN.{length, set, take, drop, length-append, length-map}
+use lib.Seq.{take-suc, length-take-le, drop-drop}
 use Rattle.std.specs.Prelude.{if◌then◌else◌}
 use Rattle.ground.specs.Limits.{legal_count, unit_limit, message_room, entry_base, change_base}
 use Rattle.ground.specs.Refusal.{accepted, ◌gives◌, ◌otherwise◌}

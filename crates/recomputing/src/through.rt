@@ -14,9 +14,7 @@ pub(crate) fn far_row(count: usize) -> [u32; UNITS]
     ensures { result ≡ filled unit_limit (tab count (λ j. far)) }
 {
     let mut row = [0u32; UNITS];
-    for j in 0..count {
-        row[j] = FAR;
-    }
+    row[..count].fill(FAR);
     row
 }
 

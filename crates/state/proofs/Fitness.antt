@@ -1,11 +1,11 @@
 -- Whether a unit in arrays is fit: each of the code's tests is the rules' test.
-use Prim.Native.Nat.{ℕ, ◌-◌, ◌*◌, ◌≤◌, ◌<◌}
+use Prim.Native.Nat.{ℕ, ◌*◌, ◌≤◌, ◌<◌}
 use native.Mathlib.Omega.{arith}
 use mathlib.Core.Bool.{Bool, true, false, ◌||◌}
 use mathlib.Core.List.{List}
 use mathlib.Core.Logic.{◌≢◌}
 use mathlib.Core.Path.{◌≡◌, sym, ap, ◌∙◌}
-use borrow.Author.Tests.{eq-eqb, ne_eqb, le-leb, leb-true, lt-leb, lt-ltb}
+use borrow.Author.Tests.{eq-eqb, ne_eqb, le-leb, leb-true, lt-ltb}
 use lib.Dec.{eqb, leb}
 use lib.ListN.{length, take}
 use lib.Seq.{get_or-take}
@@ -18,7 +18,7 @@ use Rattle.rules.specs.Tables.{unit_words, laid_unit, unit_from, fit_unit_table}
 use Rattle.rules.specs.Unit.{Unit, fit_link, fit_feasible, fit_unit}
 use Rattle.ground.proofs.Lists.{parts}
 use Rattle.ground.proofs.Rows.{every_ext}
-use Rattle.ground.proofs.Tests.{not_yes, not_both, either_right}
+use Rattle.ground.proofs.Tests.{not_yes, not_both}
 use Rattle.rules.proofs.FitUnit.{up_test, link-down, link_up, fit_facts, facts_fit, fit_table_facts}
 use Rattle.rules.proofs.Laid.{part_length}
 use Rattle.recomputing.specs.Flat.{flat_length, copy_in, row_in}
@@ -118,29 +118,6 @@ unfolding fit_feasible
 feasible-test h =
     every_ext h.count (feasible_test h.me h.feasible) (fit_feasible (unit_of h))
     (λ j l. ap (λ (d : ℕ). if eqb j h.me then eqb d 0 else eqb d far || leb d longest) (sym (feasible-at h j l)))
-
-module _ (me : ℕ) (feasible : List ℕ) (j : ℕ) where
-  -- A distance to itself that isn't 0 fails it.
-  pub own_bad : j ≡ me → at feasible j ≢ 0 → feasible_test me feasible j ≡ false
-  own_bad e d = rw (eq-eqb j me e) (ne_eqb (at feasible j) 0 d)
-
-  -- A distance to itself of 0 passes.
-  pub own_good : j ≡ me → at feasible j ≡ 0 → feasible_test me feasible j ≡ true
-  own_good e d = rw (eq-eqb j me e) (eq-eqb (at feasible j) 0 d)
-
-  -- A distance to another unit that is neither unreachable nor short fails.
-  pub other_bad : j ≢ me → at feasible j ≢ far → longest < at feasible j → feasible_test me feasible j ≡ false
-  other_bad e d h = rw (ne_eqb j me e, ne_eqb (at feasible j) far d) (lt-leb (at feasible j) longest h)
-
-  -- An unreachable one passes.
-  pub other_far : j ≢ me → at feasible j ≡ far → feasible_test me feasible j ≡ true
-  other_far e d = rw (ne_eqb j me e, eq-eqb (at feasible j) far d)
-
-  -- A short one passes.
-  pub other_short : j ≢ me → at feasible j ≤ longest → feasible_test me feasible j ≡ true
-  other_short e h =
-      rw (ne_eqb j me e)
-      (either_right (eqb (at feasible j) far) (leb (at feasible j) longest) (le-leb (at feasible j) longest h))
 
 module _ (u : Unit) where
   -- A unit of too few units isn't fit.

@@ -25,6 +25,7 @@ fn put_long(out: &mut [u8], used: usize, number: u64) -> usize
     let mut digits = [0u8; DIGITS];
     let mut rest = number;
     let mut first = DIGITS - 1;
+    // It stops at the first digit, and how many there are follows from the number alone.
     while 10 <= rest {
         let byte = digit(rest);
         digits[first] = byte;

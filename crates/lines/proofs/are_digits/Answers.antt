@@ -1,6 +1,6 @@
 -- `lines::are_digits` meets its contract: the chain asks the definition's test of every byte.
 use Prim.Native.Nat.compare
-use mathlib.Core.Bool.{Bool, ◌&&◌}
+use mathlib.Core.Bool.{◌&&◌}
 use mathlib.Core.Path.{◌≡◌, sym, ap, ◌∙◌}
 use lib.Dec.{leb, is_le}
 use Rattle.ground.specs.Bytes.{digit_zero}

@@ -1,5 +1,4 @@
 -- `lines::arguments` meets its contract. The invariant: `count` decimals are read, and `used` bytes.
-use Prim.Native.Nat.{◌-◌}
 use native.Mathlib.Omega.{arith}
 use mathlib.Core.Path.{sym, ◌∙◌}
 use borrow.Author.Rules.{rules}

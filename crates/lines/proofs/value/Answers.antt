@@ -1,15 +1,13 @@
 -- `lines::value` meets its contract. The invariant: `number` is that of the digits before `i`.
-use Prim.Native.Nat.{◌-◌}
 use native.Mathlib.Numerals.{add-one}
 use native.Mathlib.Omega.{arith}
 use mathlib.Core.Path.{◌≡◌, sym}
-use borrow.Author.Rules.{rules}
 use lib.ListN.{length}
 use Rattle.lines.proofs.Decimals.{value_none, value_more, decimal_digit, decimal_step}
 use Rattle.lines.proofs.value.Goals as goal
 
 pub loop-byte-init : goal.loop-byte-init
-loop-byte-init c = (search rules, sym (value_none _))
+loop-byte-init c = sym (value_none _)
 
 pub overflow_mul-number : goal.overflow_mul-number
 overflow_mul-number c =
@@ -30,9 +28,9 @@ overflow_add-number c =
 pub loop-byte-preserved : goal.loop-byte-preserved
 loop-byte-preserved c =
     let here = c.loop-byte in
-    (search rules, rw (add-one here.byte-index, here.invariant.1) (sym (value_more _ here.byte-index)))
+    rw (add-one here.byte-index, here.invariant) (sym (value_more _ here.byte-index))
 
 pub returns : goal.returns
 returns c =
     let all : c.loop-byte.byte-index ≡ length c.args.word.now = omega arith in
-    rw (← all) c.loop-byte.invariant.1
+    rw (← all) c.loop-byte.invariant

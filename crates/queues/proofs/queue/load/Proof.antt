@@ -2,7 +2,6 @@
 use native.Mathlib.Omega.{arith}
 use mathlib.Core.Path.{◌≡◌, sym, ◌∙◌}
 use borrow.Author.Rules.{rules}
-use borrow.Author.Tests.{not-true, not-false}
 use Rattle.rules.specs.Tables.{queue_bytes, queue_at}
 use Rattle.queues.proofs.QueueThere.{There, there_of, load_none, load_there}
 use Rattle.slices.proofs.Stretches.{lent}

@@ -1,5 +1,4 @@
 -- The invariant: the array holds the distances passed, and zeros.
-use Prim.Native.Nat.{◌≤◌, ◌-◌}
 use mathlib.Core.Path.{◌≡◌}
 use lib.ListN.{take}
 use Rattle.ground.specs.Limits.{unit_limit}
@@ -8,4 +7,4 @@ use Rattle.tree.specs.Tree.{distance}
 use Rattle.recomputing.proofs.heads.distances.Given as goal
 
 abbrev pub invariant-loop-j : goal.invariant-loop-j
-invariant-loop-j l = (l.j ≤ l.count) × (l.row ≡ filled unit_limit (tab l.j (distance l.count l.root (take l.count l.tree))))
+invariant-loop-j l = l.row ≡ filled unit_limit (tab l.j (distance l.count l.root (take l.count l.tree)))

@@ -1,5 +1,4 @@
 -- The invariant: the array holds the links passed, and zeros.
-use Prim.Native.Nat.{◌-◌, ◌≤◌}
 use mathlib.Core.Path.{◌≡◌}
 use Rattle.ground.specs.Limits.{unit_limit}
 use Rattle.ground.specs.Rows.{at, tab, filled}
@@ -7,4 +6,4 @@ use Rattle.recomputing.specs.Legal.{link_from}
 use Rattle.recomputing.proofs.links.copied_row.Given as goal
 
 abbrev pub invariant-loop-j : goal.invariant-loop-j
-invariant-loop-j l = (l.j ≤ l.count) × (l.row ≡ filled unit_limit (tab l.j (λ k. link_from l.i (at l.copy k))))
+invariant-loop-j l = l.row ≡ filled unit_limit (tab l.j (λ k. link_from l.i (at l.copy k)))

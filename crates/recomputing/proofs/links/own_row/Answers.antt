@@ -1,21 +1,14 @@
 -- `recomputing::links::own_row` meets its contract. The invariant: the array holds the links passed, and zeros.
-use Prim.Native.Nat.{◌-◌}
 use native.Mathlib.Omega.{arith}
-use mathlib.Core.Path.{refl}
-use borrow.Author.Rules.{rules}
 use Rattle.ground.specs.Limits.{unit_limit}
 use Rattle.ground.proofs.Filling.{filling, filled_all}
-use Rattle.recomputing.specs.Legal.{legal_link}
 use Rattle.recomputing.proofs.links.own_row.Goals as goal
-
-pub loop-j-init : goal.loop-j-init
-loop-j-init c = (search rules, refl)
 
 pub loop-j-preserved : goal.loop-j-preserved
 loop-j-preserved c =
     let here = c.loop-j in
-    (search rules, filling unit_limit here.j _ here.invariant.1 c.legal_link.ensures (omega arith))
+    filling unit_limit here.j _ here.invariant c.legal_link.ensures (omega arith)
 
 pub returns : goal.returns
 returns c =
-    filled_all unit_limit c.loop-j.j c.args.count _ c.loop-j.invariant.1 (omega arith)
+    filled_all unit_limit c.loop-j.j c.args.count _ c.loop-j.invariant (omega arith)

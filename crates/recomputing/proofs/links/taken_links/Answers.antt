@@ -1,9 +1,8 @@
 -- `recomputing::links::taken_links` meets its contract. The invariant: the array holds the rows passed, and rows of zeros.
-use Prim.Native.Nat.{ℕ, ◌-◌, ◌≤◌}
+use Prim.Native.Nat.{ℕ, ◌≤◌}
 use native.Mathlib.Omega.{arith}
 use mathlib.Core.List.{List}
-use mathlib.Core.Path.{refl, ap, ◌∙◌}
-use borrow.Author.Rules.{rules}
+use mathlib.Core.Path.{ap, ◌∙◌}
 use Rattle.ground.specs.Limits.{unit_limit}
 use Rattle.ground.specs.Rows.{at, tab, filled}
 use Rattle.recomputing.specs.Legal.{link_from, legal_taken}
@@ -12,9 +11,6 @@ use Rattle.recomputing.proofs.CopiedRows.{taken_row, taken_own, taken_none, take
 use Rattle.recomputing.proofs.links.taken_links.Goals as goal
 use Rattle.recomputing.proofs.links.taken_links.Goals.{then-i-me, else-i-me+then-preference-count, else-i-me+else-preference-count}
 
-pub loop-i-init : goal.loop-i-init
-loop-i-init c = (search rules, refl)
-
 pub loop-i-preserved : goal.loop-i-preserved
 loop-i-preserved c =
     let a = c.args in
@@ -22,32 +18,30 @@ loop-i-preserved c =
     let i = here.i in
     let flat = a.copies.now in
     let row = taken_row a.count a.me a.costs flat a.preferences in
-    let low : at a.preferences i ≤ a.count = c.requires.2 i c.loop-i-test.true in (
-      search rules,
-      elim c.if-i-me.branch [
-        | then-i-me w ↦
-            w.rows-is ∙ filling_rows unit_limit i row here.invariant.1
-            (w.own_row.ensures
-            ∙ ap (filled unit_limit) (taken_own a.count a.me a.costs flat a.preferences i (omega arith) w.if-i-me.true))
-            (omega arith)
-        | else-i-me+then-preference-count w ↦
-            w.rows-is ∙ filling_rows unit_limit i row here.invariant.1
-            (w.far_row.ensures
-            ∙ ap (filled unit_limit)
-            (taken_none a.count a.me a.costs flat a.preferences i (omega arith) w.if-i-me.false w.if-preference-count.true))
-            (omega arith)
-        | else-i-me+else-preference-count w ↦
-            w.rows-is ∙ filling_rows unit_limit i row here.invariant.1
-            (w.copied_row.ensures
-            ∙ ap (λ (copy : List ℕ). filled unit_limit (tab a.count (λ j. link_from i (at copy j)))) w.copy_of.ensures
-            ∙ ap (filled unit_limit)
-            (taken_copied a.count a.me a.costs flat a.preferences i (omega arith) c.requires.1 (omega arith) w.if-i-me.false
-            (omega arith)))
-            (omega arith)
-      ],
-    )
+    let low : at a.preferences i ≤ a.count = c.requires.2 i c.loop-i-test.true in
+    elim c.if-i-me.branch [
+      | then-i-me w ↦
+          w.rows-is ∙ filling_rows unit_limit i row here.invariant
+          (w.own_row.ensures
+          ∙ ap (filled unit_limit) (taken_own a.count a.me a.costs flat a.preferences i (omega arith) w.if-i-me.true))
+          (omega arith)
+      | else-i-me+then-preference-count w ↦
+          w.rows-is ∙ filling_rows unit_limit i row here.invariant
+          (w.far_row.ensures
+          ∙ ap (filled unit_limit)
+          (taken_none a.count a.me a.costs flat a.preferences i (omega arith) w.if-i-me.false w.if-preference-count.true))
+          (omega arith)
+      | else-i-me+else-preference-count w ↦
+          w.rows-is ∙ filling_rows unit_limit i row here.invariant
+          (w.copied_row.ensures
+          ∙ ap (λ (copy : List ℕ). filled unit_limit (tab a.count (λ j. link_from i (at copy j)))) w.copy_of.ensures
+          ∙ ap (filled unit_limit)
+          (taken_copied a.count a.me a.costs flat a.preferences i (omega arith) c.requires.1 (omega arith) w.if-i-me.false
+          (omega arith)))
+          (omega arith)
+    ]
 
 pub returns : goal.returns
 unfolding legal_taken
 returns c =
-    filled_all_rows unit_limit c.loop-i.i c.args.count _ c.loop-i.invariant.1 (omega arith)
+    filled_all_rows unit_limit c.loop-i.i c.args.count _ c.loop-i.invariant (omega arith)

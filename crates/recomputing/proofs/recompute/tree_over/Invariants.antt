@@ -1,5 +1,4 @@
 -- The invariant: the array holds the entries passed, and zeros.
-use Prim.Native.Nat.{◌-◌, ◌≤◌}
 use mathlib.Core.Path.{◌≡◌}
 use Rattle.ground.specs.Limits.{unit_limit}
 use Rattle.ground.specs.Rows.{tab, filled}
@@ -7,4 +6,4 @@ use Rattle.tree.proofs.ShortestTree.{entry_in}
 use Rattle.recomputing.proofs.recompute.tree_over.Given as goal
 
 abbrev pub invariant-loop-j : goal.invariant-loop-j
-invariant-loop-j l = (l.j ≤ l.count) × (l.row ≡ filled unit_limit (tab l.j (entry_in l.count l.me l.links l.distances)))
+invariant-loop-j l = l.row ≡ filled unit_limit (tab l.j (entry_in l.count l.me l.links l.distances))

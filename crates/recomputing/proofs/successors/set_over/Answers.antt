@@ -1,15 +1,10 @@
 -- `recomputing::successors::set_over` meets its contract. The invariant: the bit is 2 ^ k, and the set has the successors below k.
-use Prim.Native.Nat.{◌+◌, ℕ, ◌-◌, ◌≤◌}
+use Prim.Native.Nat.{◌+◌, ◌≤◌}
 use native.Mathlib.Nat.{pow-le-pow_right}
 use native.Mathlib.Omega.{arith}
-use mathlib.Core.Bool.{Bool}
-use mathlib.Core.List.{List, []}
 use mathlib.Core.Path.{ap₂, ◌≡◌, refl, ◌∙◌}
 use borrow.Author.Tests.{lt-ltb, le-ltb}
-use lib.Dec.{ltb}
-use lib.ListN.{get_or}
 use Rattle.ground.specs.Limits.{unit_limit}
-use Rattle.ground.specs.Rows.{at}
 use Rattle.ground.proofs.Bits.{twice, bits_below, bits_in, bits_out}
 use Rattle.recomputing.proofs.successors.set_over.Goals as goal
 use Rattle.recomputing.proofs.successors.set_over.Goals.{then-through-k, else-through-k}
@@ -36,16 +31,15 @@ loop-k-preserved c =
     let here = c.loop-k in
     let args = c.args in
     let below = is_below args.through args.feasible args.j in (
-      omega arith,
-      rw here.invariant.1 (twice here.k),
+      rw here.invariant.0 (twice here.k),
       elim c.if-through-k.branch [
         | then-through-k w ↦
-            w.set-is ∙ ap₂ ◌+◌ here.invariant.2 here.invariant.1 ∙ bits_in here.k below (lt-ltb _ _ w.if-through-k.true)
-        | else-through-k w ↦ w.set-is ∙ here.invariant.2 ∙ bits_out here.k below (le-ltb _ _ w.if-through-k.false)
+            w.set-is ∙ ap₂ ◌+◌ here.invariant.1 here.invariant.0 ∙ bits_in here.k below (lt-ltb _ _ w.if-through-k.true)
+        | else-through-k w ↦ w.set-is ∙ here.invariant.1 ∙ bits_out here.k below (le-ltb _ _ w.if-through-k.false)
       ],
     )
 
 pub returns : goal.returns
 returns c =
     let all : c.loop-k.k ≡ c.args.count = omega arith in
-    rw (c.loop-k.invariant.2, all) refl
+    rw (c.loop-k.invariant.1, all) refl

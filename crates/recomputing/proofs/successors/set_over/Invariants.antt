@@ -1,5 +1,5 @@
 -- The invariant: the bit is 2 ^ k, and the set has the successors below k.
-use Prim.Native.Nat.{◌^◌, ℕ, ◌-◌, ◌≤◌}
+use Prim.Native.Nat.{◌^◌, ℕ}
 use mathlib.Core.Bool.{Bool}
 use mathlib.Core.List.{List, []}
 use mathlib.Core.Path.{◌≡◌}
@@ -13,4 +13,4 @@ abbrev pub is_below : (through : List (List ℕ)) (feasible : List ℕ) (j k : �
 is_below through feasible j k = ltb (at (get_or through k []) j) (at feasible j)
 
 abbrev pub invariant-loop-k : goal.invariant-loop-k
-invariant-loop-k l = (l.k ≤ l.count) × (l.bit ≡ 2 ^ l.k) × (l.set ≡ bits l.k (is_below l.through l.feasible l.j))
+invariant-loop-k l = (l.bit ≡ 2 ^ l.k) × (l.set ≡ bits l.k (is_below l.through l.feasible l.j))

@@ -1,9 +1,7 @@
 -- `recomputing::through::preferred_for` meets its contract. The invariant: of the neighbours passed, the least sum and the lowest number that has it.
-use Prim.Native.Nat.{◌-◌}
 use native.Mathlib.Omega.{arith}
 use mathlib.Core.Path.{◌≡◌, sym, ◌∙◌}
 use borrow.Author.Rules.{rules}
-use Rattle.ground.specs.Rows.{at}
 use Rattle.tree.specs.Recompute.{sum_through}
 use Rattle.tree.proofs.Cells.{preferred_at}
 use Rattle.recomputing.proofs.Scanning.{Scanned, scan_none, scan_less, scan_more, scan_done}
@@ -11,16 +9,16 @@ use Rattle.recomputing.proofs.through.preferred_for.Goals as goal
 use Rattle.recomputing.proofs.through.preferred_for.Goals.{then-sum-nearest, else-sum-nearest}
 
 pub loop-k-init : goal.loop-k-init
-loop-k-init c = (search rules, search rules, scan_none)
+loop-k-init c = (search rules, scan_none)
 
 pub loop-k-preserved : goal.loop-k-preserved
 loop-k-preserved c =
     let here = c.loop-k in
     let sum = c.plus-sum.ensures in
-    let scanned = here.invariant.2 in
+    let scanned = here.invariant.1 in
     elim c.if-sum-nearest.branch [
-      | then-sum-nearest w ↦ (search rules, omega arith, rw (w.nearest-is, w.best-is, sum) (scan_less scanned (omega arith)))
-      | else-sum-nearest w ↦ (search rules, omega arith, rw (w.nearest-is, w.best-is) (scan_more scanned (omega arith)))
+      | then-sum-nearest w ↦ (omega arith, rw (w.nearest-is, w.best-is, sum) (scan_less scanned (omega arith)))
+      | else-sum-nearest w ↦ (omega arith, rw (w.nearest-is, w.best-is) (scan_more scanned (omega arith)))
     ]
 
 pub returns : goal.returns
@@ -29,5 +27,5 @@ returns c =
     let here = c.loop-k in
     let all : here.k ≡ args.count = omega arith in
     let scanned : Scanned args.count (λ i. sum_through args.costs args.through i args.j) args.count here.nearest here.best =
-    rw all at here.invariant.2 in
+    rw all at here.invariant.1 in
     scan_done scanned ∙ sym (preferred_at args.count args.costs args.through args.j (omega arith))

@@ -1,9 +1,7 @@
 -- `recomputing::through::through_neighbours` meets its contract. The invariant: the array holds the rows passed, and rows of zeros.
-use Prim.Native.Nat.{◌-◌}
 use native.Mathlib.Omega.{arith}
 use mathlib.Core.List.{[]}
-use mathlib.Core.Path.{◌≡◌, refl, sym, ap, ◌∙◌}
-use borrow.Author.Rules.{rules}
+use mathlib.Core.Path.{◌≡◌, sym, ap, ◌∙◌}
 use Rattle.ground.specs.Limits.{unit_limit}
 use Rattle.ground.specs.Rows.{filled, filled_rows}
 use Rattle.tree.specs.Recompute.{through_neighbours}
@@ -27,34 +25,29 @@ returns-then-copies-ne-COPIES c =
     sym (ap (filled_rows unit_limit)
     (through_none args.count args.costs args.copies.now (not_long args.count args.copies.now c.if-copies-ne-COPIES.true)))
 
-pub loop-k-init : goal.loop-k-init
-loop-k-init c = (search rules, refl)
-
 pub loop-k-preserved : goal.loop-k-preserved
 loop-k-preserved c =
     let a = c.args in
     let here = c.loop-k in
     let k = here.k in
     let flat = a.copies.now in
-    let long : length flat ≡ flat_length = c.if-copies-ne-COPIES.false in (
-      search rules,
-      elim c.if-costs-k-eq0.branch [
-        | then-costs-k-eq0 w ↦
-            w.rows-is ∙ filling_rows unit_limit k _ here.invariant.1
-            (w.far_row.ensures ∙ ap (filled unit_limit) (through_down a.count a.costs flat k w.if-costs-k-eq0.true))
-            (omega arith)
-        | else-costs-k-eq0 w ↦
-            w.rows-is ∙ filling_rows unit_limit k _ here.invariant.1
-            (w.distances.ensures
-            ∙ row_distances a.count flat k long (omega arith) (omega arith)
-            ∙ ap (filled unit_limit) (through_up a.count a.costs flat k (omega arith) w.if-costs-k-eq0.false))
-            (omega arith)
-      ],
-    )
+    let long : length flat ≡ flat_length = c.if-copies-ne-COPIES.false in
+    elim c.if-costs-k-eq0.branch [
+      | then-costs-k-eq0 w ↦
+          w.rows-is ∙ filling_rows unit_limit k _ here.invariant
+          (w.far_row.ensures ∙ ap (filled unit_limit) (through_down a.count a.costs flat k w.if-costs-k-eq0.true))
+          (omega arith)
+      | else-costs-k-eq0 w ↦
+          w.rows-is ∙ filling_rows unit_limit k _ here.invariant
+          (w.distances.ensures
+          ∙ row_distances a.count flat k long (omega arith) (omega arith)
+          ∙ ap (filled unit_limit) (through_up a.count a.costs flat k (omega arith) w.if-costs-k-eq0.false))
+          (omega arith)
+    ]
 
 pub returns : goal.returns
 unfolding through_neighbours
 returns c =
     let args = c.args in
-    filled_all_rows unit_limit c.loop-k.k args.count _ c.loop-k.invariant.1 (omega arith)
+    filled_all_rows unit_limit c.loop-k.k args.count _ c.loop-k.invariant (omega arith)
     ∙ sym (ap (filled_rows unit_limit) (if_true _ _ [] (whole_of args.count args.copies.now (omega arith) c.if-copies-ne-COPIES.false)))

@@ -1,5 +1,4 @@
 -- The invariant: the array holds the rows passed, and rows of zeros.
-use Prim.Native.Nat.{◌-◌, ◌≤◌}
 use mathlib.Core.Path.{◌≡◌}
 use Rattle.ground.specs.Limits.{unit_limit}
 use Rattle.ground.specs.Rows.{tab, filled_rows}
@@ -8,4 +7,4 @@ use Rattle.recomputing.specs.Flat.{copies_in}
 use Rattle.recomputing.proofs.through.through_neighbours.Given as goal
 
 abbrev pub invariant-loop-k : goal.invariant-loop-k
-invariant-loop-k l = (l.k ≤ l.count) × (l.rows ≡ filled_rows unit_limit (tab l.k (λ i. tab l.count (through_cell l.count l.costs (copies_in l.count l.copies) i))))
+invariant-loop-k l = l.rows ≡ filled_rows unit_limit (tab l.k (λ i. tab l.count (through_cell l.count l.costs (copies_in l.count l.copies) i)))

@@ -1,5 +1,5 @@
 -- `state::held::copies` meets its contract. The invariant: the first i numbers are the copies', the rest zeros.
-use Prim.Native.Nat.{◌/◌, ◌%◌, ℕ, ◌+◌, ◌-◌, ◌<◌}
+use Prim.Native.Nat.{◌/◌, ◌%◌, ℕ, ◌+◌, ◌<◌}
 use native.Mathlib.Omega.{arith}
 use mathlib.Core.Bool.{Bool, false, ◌&&◌}
 use mathlib.Core.List.{List}
@@ -42,18 +42,16 @@ loop-i-preserved c =
     let here = c.loop-i in
     let args = c.args in
     let store = stored args.count args.table.now here.i here.numbers (omega arith) in
-    let keep = kept args.count args.table.now here.i here.numbers (omega arith) in (
-      omega arith,
-      elim c.if-i-count.branch [
-        | then-i-count+then-i-count-2 w ↦ w.numbers-is ∙ store w.if-i-count.true w.if-i-count-2.true here.invariant.1
-        | then-i-count+else-i-count-2 w ↦
-            w.numbers-is
-            ∙ keep (and_false (ltb (here.i / unit_limit) args.count) _ (le-ltb _ _ w.if-i-count-2.false)) here.invariant.1
-        | else-i-count w ↦ w.numbers-is ∙ keep (rw (le-ltb _ _ w.if-i-count.false)) here.invariant.1
-      ],
-    )
+    let keep = kept args.count args.table.now here.i here.numbers (omega arith) in
+    elim c.if-i-count.branch [
+      | then-i-count+then-i-count-2 w ↦ w.numbers-is ∙ store w.if-i-count.true w.if-i-count-2.true here.invariant
+      | then-i-count+else-i-count-2 w ↦
+          w.numbers-is
+          ∙ keep (and_false (ltb (here.i / unit_limit) args.count) _ (le-ltb _ _ w.if-i-count-2.false)) here.invariant
+      | else-i-count w ↦ w.numbers-is ∙ keep (rw (le-ltb _ _ w.if-i-count.false)) here.invariant
+    ]
 
 pub returns : goal.returns
 returns c =
     let all : c.loop-i.i ≡ flat_length = omega arith in
-    rw (c.loop-i.invariant.1, all) refl
+    rw (c.loop-i.invariant, all) refl

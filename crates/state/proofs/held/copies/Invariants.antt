@@ -1,5 +1,4 @@
 -- The invariant: the first i numbers are the copies', the rest zeros.
-use Prim.Native.Nat.{◌-◌, ◌≤◌}
 use mathlib.Core.Path.{◌≡◌}
 use Rattle.ground.specs.Rows.{tab, filled}
 use Rattle.recomputing.specs.Flat.{flat_length}
@@ -7,4 +6,4 @@ use Rattle.state.specs.Holding.{copy_place}
 use Rattle.state.proofs.held.copies.Given as goal
 
 abbrev pub invariant-loop-i : goal.invariant-loop-i
-invariant-loop-i l = (l.i ≤ flat_length) × (l.numbers ≡ filled flat_length (tab l.i (copy_place l.count l.table)))
+invariant-loop-i l = l.numbers ≡ filled flat_length (tab l.i (copy_place l.count l.table))

@@ -3,7 +3,6 @@ use native.Mathlib.Omega.{arith}
 use mathlib.Core.Bool.{Bool, true, false}
 use mathlib.Core.Path.{◌≡◌, sym, ap, ◌∙◌}
 use borrow.Author.Rules.{rules}
-use borrow.Author.Tests.{not-true, not-false}
 use Rattle.rules.specs.Hub.{active_answer}
 use Rattle.rules.specs.Tables.{unit_from, fit_unit_table}
 use Rattle.rules.specs.Unit.{is_active}

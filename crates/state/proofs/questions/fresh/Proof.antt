@@ -3,7 +3,6 @@ use mathlib.Core.Bool.{true}
 use mathlib.Core.Path.{◌≡◌, ◌∙◌}
 use borrow.Author.Rules.{rules}
 use borrow.Author.Tests.{eq-eqb, ne_eqb, lt-ltb, le-ltb}
-use lib.ListN.{length}
 use Rattle.ground.specs.Limits.{legal_count}
 use Rattle.rules.specs.Hub.{fresh_table_answer, fresh_table}
 use Rattle.rules.specs.Tables.{unit_words}

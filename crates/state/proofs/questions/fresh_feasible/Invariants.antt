@@ -1,5 +1,5 @@
 -- The invariant: the first j distances are the fresh unit's, and the rest are zeros.
-use Prim.Native.Nat.{ℕ, ◌-◌, ◌≤◌}
+use Prim.Native.Nat.{ℕ}
 use mathlib.Core.Path.{◌≡◌}
 use lib.Dec.{eqb}
 use Rattle.std.specs.Prelude.{if◌then◌else◌}
@@ -12,4 +12,4 @@ abbrev pub distance_to : (me j : ℕ) → ℕ
 distance_to me j = if eqb j me then 0 else far
 
 abbrev pub invariant-loop-j : goal.invariant-loop-j
-invariant-loop-j l = (l.j ≤ l.count) × (l.row ≡ filled unit_limit (tab l.j (distance_to l.me)))
+invariant-loop-j l = l.row ≡ filled unit_limit (tab l.j (distance_to l.me))

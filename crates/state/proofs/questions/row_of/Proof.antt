@@ -4,7 +4,6 @@ use native.Mathlib.Omega.{arith}
 use mathlib.Core.Bool.{true, false}
 use mathlib.Core.Path.{◌≡◌, sym, ap, ◌∙◌}
 use borrow.Author.Rules.{rules}
-use borrow.Author.Tests.{not-true, not-false}
 use Rattle.ground.specs.Limits.{unit_limit}
 use Rattle.rules.specs.Tables.{unit_from, fit_unit_table}
 use Rattle.ground.proofs.Limits.{filled_counted}

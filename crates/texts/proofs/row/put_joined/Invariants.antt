@@ -1,6 +1,6 @@
 -- The invariant: the successors below k are put, and the rest is the set
 -- halved k times.
-use Prim.Native.Nat.{◌-◌, ◌/◌, ◌^◌, ◌≤◌}
+use Prim.Native.Nat.{◌/◌, ◌^◌}
 use mathlib.Core.Path.{◌≡◌}
 use lib.ListN.{length}
 use Rattle.ground.specs.Rows.{is_in}
@@ -9,8 +9,7 @@ use Rattle.slices.proofs.Putting.{Put}
 use Rattle.texts.proofs.row.put_joined.Given as goal
 
 abbrev pub invariant-loop-k : goal.invariant-loop-k
-invariant-loop-k l = (l.k ≤ l.count)
-    × (l.rest ≡ l.set / 2 ^ l.k)
+invariant-loop-k l = (l.rest ≡ l.set / 2 ^ l.k)
     × (length l.out ≡ length l.initial.out)
     × Put l.initial.out l.used (joined_to l.k (is_in l.set)) l.then.used l.out
     × (l.then.some ≡ is_some (joined_to l.k (is_in l.set)))

@@ -46,10 +46,8 @@ fn put_unit(out: &mut [u8], used: usize, unit: Row, i: u32) -> usize
 {
     let count = unit.count;
     let mut then = row::put_state(out, used, i, unit.active);
-    let mut j = 0;
-    while j < count {
+    for j in 0..count {
         then = put_way(out, then, unit, i, j);
-        j += 1;
     }
     then
 }
@@ -65,10 +63,8 @@ pub fn show(words: &[u32], queues: &[u8], out: &mut [u8], used: usize) -> usize
     }
     let count = first.count as u32;
     let mut then = used;
-    let mut i = 0;
-    while i < count {
+    for i in 0..count {
         then = put_unit(out, then, asking::row_of(words, queues, i), i);
-        i += 1;
     }
     then
 }

@@ -23,15 +23,13 @@ fn free_place(meter: &[u32]) -> usize
     requires { length meter.now ≡ meter_words }
     ensures { result ≡ free_place (meter_from meter.now) }
 {
-    let mut place = 0;
-    while place < FRAMES {
+    for place in 0..FRAMES {
         let frame = table::frame_in(meter, place);
         if frame.size == 0 {
             return place;
         }
-        place += 1;
     }
-    place
+    FRAMES
 }
 
 // Whether a unit is in a set.
@@ -39,13 +37,7 @@ fn is_in(set: u32, k: u32) -> bool
     requires { k < unit_limit }
     ensures { result ≡ is_in set k }
 {
-    let mut rest = set;
-    let mut i = 0;
-    while i < k {
-        rest /= 2;
-        i += 1;
-    }
-    rest % 2 == 1
+    (set >> k) % 2 == 1
 }
 
 // The lowest refusal of each call, or 0.

@@ -25,13 +25,7 @@ pub(crate) fn is_legal_size(size: u32) -> bool
 fn fit_nothing(frame: Frame) -> bool
     ensures { result ≡ (eqb frame.unit 0 && eqb frame.destination 0 && eqb frame.hops 0) }
 {
-    if frame.unit != 0 {
-        return false;
-    }
-    if frame.destination != 0 {
-        return false;
-    }
-    frame.hops == 0
+    frame.unit == 0 && frame.destination == 0 && frame.hops == 0
 }
 
 // One place: free, or a frame of a legal size on its way between two units of the network.
@@ -61,14 +55,7 @@ fn fit_frames(count: u32, meter: &[u32]) -> bool
     requires { length meter.now ≡ meter_words }
     ensures { result ≡ every frame_limit (λ place. fit_frame count (frame_at (meter_from meter.now) place)) }
 {
-    let mut place = 0;
-    while place < FRAMES {
-        if !fit_frame(count, table::frame_in(meter, place)) {
-            return false;
-        }
-        place += 1;
-    }
-    true
+    (0..FRAMES).all(|place| fit_frame(count, table::frame_in(meter, place)))
 }
 
 // Whether entered is within its limit and the sum of the other three. Nothing is added up: what was delivered and what was
@@ -111,8 +98,5 @@ fn fit_table(count: u32, meter: &[u32]) -> bool
 pub fn is_fit(words: &[u32], queues: &[u8], meter: &[u32]) -> bool
     ensures { result ≡ fit_metered words.now queues.now meter.now }
 {
-    if !fit::is_fit(words, queues) {
-        return false;
-    }
-    fit_table(words[0], meter)
+    fit::is_fit(words, queues) && fit_table(words[0], meter)
 }

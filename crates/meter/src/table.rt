@@ -68,10 +68,8 @@ fn held_bytes(meter: &[u32]) -> u64
     ensures { result ≡ held_bytes (meter_from meter.now) }
 {
     let mut bytes: u64 = 0;
-    let mut place = 0;
-    while place < FRAMES {
+    for place in 0..FRAMES {
         bytes += meter[PLACES + place * WIDTH] as u64;
-        place += 1;
     }
     bytes
 }
@@ -89,10 +87,8 @@ fn held_frames(meter: &[u32]) -> u64
     ensures { result ≡ held_frames (meter_from meter.now) }
 {
     let mut frames: u64 = 0;
-    let mut place = 0;
-    while place < FRAMES {
+    for place in 0..FRAMES {
         frames += one_if_held(meter[PLACES + place * WIDTH]);
-        place += 1;
     }
     frames
 }

@@ -60,10 +60,8 @@ fn put_places(meter: &[u32], out: &mut [u8], used: usize) -> usize
     ensures out { out.new ≡ put_after used (places_text (meter_from meter.now) frame_limit) out.old }
 {
     let mut then = used;
-    let mut place = 0;
-    while place < FRAMES {
+    for place in 0..FRAMES {
         then = put_place(out, then, place as u32, table::frame_in(meter, place));
-        place += 1;
     }
     then
 }

@@ -31,11 +31,9 @@ fn number_in(set: u32, count: usize) -> usize
 {
     let mut rest = set;
     let mut number = 0;
-    let mut k = 0;
-    while k < count {
+    for _ in 0..count {
         number += (rest % 2) as usize;
         rest /= 2;
-        k += 1;
     }
     number
 }
@@ -47,8 +45,7 @@ fn unit_at(set: u32, count: usize, place: usize) -> usize
 {
     let mut rest = set;
     let mut before = 0;
-    let mut k = 0;
-    while k < count {
+    for k in 0..count {
         if rest % 2 == 1 {
             if before == place {
                 return k;
@@ -56,9 +53,8 @@ fn unit_at(set: u32, count: usize, place: usize) -> usize
             before += 1;
         }
         rest /= 2;
-        k += 1;
     }
-    k
+    count
 }
 
 // The successor that a choice byte takes.

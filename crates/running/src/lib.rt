@@ -169,19 +169,8 @@ fn turn(
     next_chunk(rt, input, progress.held)
 }
 
-// The turns that are left after one: none where there is no going on.
-fn left(turns: u64, going: bool) -> u64
-    requires { 0 < turns }
-    ensures { result < turns }
-{
-    if going {
-        return turns - 1;
-    }
-    0
-}
-
-// All chunks of the input; answers the bytes held of a last line. A proved loop has to end: it counts down from a number that
-// no run uses up.
+// All chunks of the input; answers the bytes held of a last line. A proved loop has to end: it counts up to a number that no run
+// reaches.
 fn feed_all(
     rt: &HostRuntime,
     words: &mut [u32],
@@ -197,10 +186,11 @@ fn feed_all(
         held: 0,
         going: true,
     };
-    let mut turns = u64::MAX;
-    while 0 < turns {
+    for _ in 0..u64::MAX {
         progress = turn(rt, words, queues, meter, line, input, out, progress);
-        turns = left(turns, progress.going);
+        if !progress.going {
+            break;
+        }
     }
     progress.held
 }

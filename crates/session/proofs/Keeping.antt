@@ -1,5 +1,5 @@
 -- What is lent keeps a session: of its line no more than the room, which is enough to tell its command.
-use Prim.Native.Nat.{ℕ, suc, ◌+◌, min}
+use Prim.Native.Nat.{ℕ, suc, min}
 use native.Mathlib.Omega.{arith}
 use mathlib.Core.Bool.{true, false}
 use mathlib.Core.List.{List, [], ◌∷◌, ◌++◌}

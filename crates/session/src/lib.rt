@@ -58,8 +58,7 @@ fn take_line(line: &mut [u8], before: usize, chunk: &[u8], from: usize) -> Taken
     ensures line { line.new ≡ (taken line.old before from (drop from chunk.now)).line }
 {
     let mut held = before;
-    let mut place = from;
-    while place < chunk.len() {
+    for place in from..chunk.len() {
         let byte = chunk[place];
         if byte == b'\n' {
             return Taken {
@@ -69,10 +68,9 @@ fn take_line(line: &mut [u8], before: usize, chunk: &[u8], from: usize) -> Taken
             };
         }
         held = bytes::put_byte(line, held, byte);
-        place += 1;
     }
     Taken {
-        place,
+        place: from.max(chunk.len()),
         held,
         whole: false,
     }
@@ -132,6 +130,7 @@ pub fn feed(
     ensures inside { result.used ≤ max used (length out.new) }
 {
     let mut reached = Reached { place, held, used };
+    // Each turn says where it came to, so there is no counting to `for`.
     while reached.place < chunk.len() {
         if !goes_on(line.len(), reached.held, out.len(), reached.used) {
             return reached;

@@ -1,5 +1,5 @@
 -- The invariant: the lines of the places below `place` are put.
-use Prim.Native.Nat.{◌-◌, ◌≤◌}
+use Prim.Native.Nat.{◌≤◌}
 use mathlib.Core.Path.{◌≡◌}
 use lib.ListN.{length}
 use Rattle.ground.specs.Limits.{frame_limit}
@@ -13,6 +13,3 @@ invariant-loop-place l =
     (l.place ≤ frame_limit)
     × (length l.out ≡ length l.initial.out)
     × Put l.initial.out l.used (places_text (meter_from l.meter) l.place) l.then l.out
-
-abbrev pub decreases-loop-place : goal.decreases-loop-place
-decreases-loop-place l = frame_limit - l.place

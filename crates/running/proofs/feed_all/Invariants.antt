@@ -1,11 +1,7 @@
--- `running::feed_all` is safe and ends. From turn to turn the chunk lies within `input`; the measure is the number of turns
--- that are left.
+-- `running::feed_all` is safe and ends: from turn to turn the chunk lies within `input`.
 use Prim.Native.Nat.{◌≤◌}
 use lib.ListN.{length}
 use Rattle.running.proofs.feed_all.Given as goal
 
-abbrev pub invariant-loop-turns : goal.invariant-loop-turns
-invariant-loop-turns l = l.progress.filled ≤ length l.input
-
-abbrev pub decreases-loop-turns : goal.decreases-loop-turns
-decreases-loop-turns l = l.turns
+abbrev pub invariant-loop : goal.invariant-loop
+invariant-loop l = l.progress.filled ≤ length l.input

@@ -1,5 +1,4 @@
 -- `session::feed` meets its contract. The invariant: what is lent goes on as it would have from the start.
-use Prim.Native.Nat.{◌-◌}
 use mathlib.Core.Path.{refl, ◌∙◌}
 use borrow.Author.Rules.{rules}
 use Rattle.session.proofs.Feeding.{done_full, done_whole}

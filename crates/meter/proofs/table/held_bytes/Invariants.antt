@@ -1,5 +1,5 @@
 -- The invariant: the bytes at the places below this one, and that they are not too many.
-use Prim.Native.Nat.{◌*◌, ◌-◌, ◌≤◌}
+use Prim.Native.Nat.{◌*◌, ◌≤◌}
 use mathlib.Core.Path.{◌≡◌}
 use Rattle.ground.specs.Limits.{frame_limit, far}
 use Rattle.ground.specs.Rows.{total}
@@ -12,6 +12,3 @@ invariant-loop-place l =
     (l.place ≤ frame_limit)
     × (l.bytes ≤ l.place * far)
     × (l.bytes ≡ total l.place (λ p. (frame_at (meter_from l.meter) p).size))
-
-abbrev pub decreases-loop-place : goal.decreases-loop-place
-decreases-loop-place l = frame_limit - l.place

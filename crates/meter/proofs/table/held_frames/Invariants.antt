@@ -1,5 +1,5 @@
 -- The invariant: how many of the places below this one hold a frame.
-use Prim.Native.Nat.{◌-◌, ◌≤◌}
+use Prim.Native.Nat.{◌≤◌}
 use mathlib.Core.Path.{◌≡◌}
 use Rattle.ground.specs.Limits.{frame_limit}
 use Rattle.ground.specs.Rows.{total}
@@ -13,6 +13,3 @@ invariant-loop-place l =
     (l.place ≤ frame_limit)
     × (l.frames ≤ l.place)
     × (l.frames ≡ total l.place (λ p. held_as (frame_at (meter_from l.meter) p).size))
-
-abbrev pub decreases-loop-place : goal.decreases-loop-place
-decreases-loop-place l = frame_limit - l.place

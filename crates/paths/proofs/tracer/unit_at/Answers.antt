@@ -20,12 +20,6 @@ returns-then-before-place c =
 pub overflow_add-before : goal.overflow_add-before
 overflow_add-before c = omega arith
 
-pub overflow_add-k : goal.overflow_add-k
-overflow_add-k c = omega arith
-
-pub loop-k-smaller : goal.loop-k-smaller
-loop-k-smaller c = omega arith
-
 pub loop-k-preserved : goal.loop-k-preserved
 loop-k-preserved c =
     let turn = c.loop-k in

@@ -16,8 +16,8 @@ use Rattle.ground.proofs.Filling.{filled_rows_same}
 use Rattle.ground.proofs.Places.{at_filled}
 use Rattle.ground.proofs.Rows.{tab_ext}
 use Rattle.ground.proofs.Tests.{both, both_of, and_false, if_true, if_false, yes_or_no}
-use Rattle.tree.proofs.ByPlace.{SameLinks, SamePlaces, preferred_same, taken_same, shortest_same, tree_over_same, facts_same}
-use Rattle.tree.proofs.Cells.{cell_at, preferred_most, taken_cell, taken_at, taken_is}
+use Rattle.tree.proofs.ByPlace.{SameLinks, SamePlaces, preferred_same, shortest_same, tree_over_same, facts_same}
+use Rattle.tree.proofs.Cells.{cell_at, taken_cell, taken_at, taken_is}
 use Rattle.tree.proofs.Shortest.{Links, ShortestFacts, shortest_facts}
 use Rattle.tree.proofs.Taken.{preferred_by, taken_by, taken_positive, taken_legal}
 use Rattle.tree.proofs.ShortestTree.{LegalLinks}
@@ -31,12 +31,6 @@ row_same xs ys e i = ap (λ (zs : List ℕ). at zs i) e ∙ at_filled unit_limit
 -- A filled table reads like the table that it holds.
 table_same : (xs ys : List (List ℕ)) → xs ≡ filled_rows unit_limit ys → SameLinks xs ys
 table_same xs ys e i j = ap (λ (zs : List (List ℕ)). link zs i j) e ∙ filled_rows_same unit_limit ys i j
-
--- A filled array of preferences has units or the count.
-pub preferred_low : (n : ℕ) (costs : List ℕ) (through : List (List ℕ)) (preferences : List ℕ)
-    → preferences ≡ filled unit_limit (preferred n costs through) → (i : ℕ) → i < n → at preferences i ≤ n
-preferred_low n costs through preferences e i h =
-    rw (row_same preferences (preferred n costs through) e i) (preferred_most n costs through i h)
 
 -- A link's cost is at least 1, and one that is there at most the highest.
 legal_positive : (c : ℕ) → 1 ≤ legal_link c
@@ -78,22 +72,13 @@ module _ (n me : ℕ) (costs : List ℕ) (copies : List (List ℕ)) (preferences
   legal_legal : LegalLinks n L
   legal_legal = record { low = λ i j hi hj. rw (legal-at i j hi hj) (legal_low (link (taken_links n me costs copies preferences) i j)) }
 
--- Preferences that are the same at each place take the same.
-legal_taken_same : (n me : ℕ) (costs : List ℕ) (copies : List (List ℕ)) (p q : List ℕ) → SamePlaces p q
-    → legal_taken n me costs copies p ≡ legal_taken n me costs copies q
-unfolding legal_taken
-legal_taken_same n me costs copies p q e =
-    ap (λ (links : List (List ℕ)). tab n (λ i. tab n (λ j. legal_link (link links i j)))) (taken_same n me costs copies p q e)
-
 -- The steps up to the taken links, as arrays.
-pub record Steps (n me : ℕ) (costs flat : List ℕ) (through : List (List ℕ)) (preferences : List ℕ) (links : List (List ℕ)) : Type 0 where
+pub record Steps (n me : ℕ) (costs flat : List ℕ) (through links : List (List ℕ)) : Type 0 where
   pub whole : is_whole n flat ≡ true
   pub here : me < n
-  pub preferring : preferences ≡ filled unit_limit (preferred n costs through)
-  pub taking : links ≡ filled_rows unit_limit (legal_taken n me costs (copies_in n flat) preferences)
+  pub taking : links ≡ filled_rows unit_limit (legal_taken n me costs (copies_in n flat) (preferred n costs through))
 
-module _ {n me : ℕ} {costs flat : List ℕ} {through : List (List ℕ)} {preferences : List ℕ} {links : List (List ℕ)}
-    (s : Steps n me costs flat through preferences links) where
+module _ {n me : ℕ} {costs flat : List ℕ} {through links : List (List ℕ)} (s : Steps n me costs flat through links) where
   abbrev copies : List (List ℕ)
   copies = copies_in n flat
 
@@ -102,11 +87,7 @@ module _ {n me : ℕ} {costs flat : List ℕ} {through : List (List ℕ)} {prefe
   taken = legal_taken n me costs copies (preferred n costs through)
 
   links_same : SameLinks links taken
-  links_same i j =
-      table_same links (legal_taken n me costs copies preferences) s.taking i j
-      ∙ ap (λ (zs : List (List ℕ)). link zs i j)
-      (legal_taken_same n me costs copies preferences (preferred n costs through)
-      (row_same preferences (preferred n costs through) s.preferring))
+  links_same = table_same links taken s.taking
 
   -- So they cost at least 1.
   pub links_positive : Links n links

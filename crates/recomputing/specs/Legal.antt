@@ -39,7 +39,3 @@ LegalCosts n costs = (k : ℕ) → k < n → at costs k ≤ highest_cost
 
 abbrev pub LegalCopies : (n : ℕ) (costs : List ℕ) (copies : List (List ℕ)) → Type 0
 LegalCopies n costs copies = (k : ℕ) → k < n → at costs k ≢ 0 → is_tree n k (copy_of copies k) ≡ true
-
--- Preferences are units or n.
-abbrev pub PreferredBelow : (n : ℕ) (preferences : List ℕ) → Type 0
-PreferredBelow n preferences = (i : ℕ) → i < n → at preferences i ≤ n

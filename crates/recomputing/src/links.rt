@@ -2,8 +2,9 @@
 ghost use Rattle.std.specs.Prelude.{◌≡◌, ◌≤◌, length};
 ghost use Rattle.ground.specs.Limits.{unit_limit};
 ghost use Rattle.ground.specs.Rows.{at, tab, filled, filled_rows};
+ghost use Rattle.tree.specs.Recompute.{preferred};
 ghost use Rattle.recomputing.specs.Flat.{flat_length, copies_in};
-ghost use Rattle.recomputing.specs.Legal.{legal_link, own_links, link_from, legal_taken, PreferredBelow};
+ghost use Rattle.recomputing.specs.Legal.{legal_link, own_links, link_from, legal_taken};
 
 use crate::{copies, through};
 use ground::{ENTRY_BASE, FAR, HIGHEST_COST, UNITS};
@@ -55,26 +56,25 @@ fn copied_row(copy: [u32; UNITS], count: usize, i: usize) -> [u32; UNITS]
     row
 }
 
-// A row of links out of each unit.
+// A row of links out of each unit; none out of one that no neighbour reaches.
 pub(crate) fn taken_links(
     count: usize,
     me: usize,
     costs: [u32; UNITS],
     copies: &[u32],
-    preferences: [u32; UNITS],
+    through: [[u32; UNITS]; UNITS],
 ) -> [[u32; UNITS]; UNITS]
-    requires { (count ≤ unit_limit) × (length copies.now ≡ flat_length) × PreferredBelow count preferences }
-    ensures { result ≡ filled_rows unit_limit (legal_taken count me costs (copies_in count copies.now) preferences) }
+    requires { (count ≤ unit_limit) × (length copies.now ≡ flat_length) }
+    ensures { result ≡ filled_rows unit_limit (legal_taken count me costs (copies_in count copies.now) (preferred count costs through)) }
 {
     let mut rows = [[0u32; UNITS]; UNITS];
     for i in 0..count {
-        let preference = preferences[i] as usize;
         if i == me {
             rows[i] = own_row(count, costs);
-        } else if preference == count {
-            rows[i] = through::far_row(count);
+        } else if let Some(k) = through::preferred_for(count, costs, through, i) {
+            rows[i] = copied_row(copies::copy_of(copies, k), count, i);
         } else {
-            rows[i] = copied_row(copies::copy_of(copies, preference), count, i);
+            rows[i] = through::far_row(count);
         }
     }
     rows

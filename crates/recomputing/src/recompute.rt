@@ -7,7 +7,7 @@ ghost use Rattle.tree.proofs.Shortest.{Links, ShortestFacts};
 ghost use Rattle.tree.proofs.ShortestTree.{LegalLinks};
 ghost use Rattle.recomputing.specs.Legal.{recomputed_from};
 
-use crate::{heads, links, shortest, through};
+use crate::{heads, links, shortest};
 use ground::{COPIES, ENTRY_BASE, FAR, UNITS};
 
 // Unit j's entry in the tree over the links: its head is the lowest-numbered unit that gives its shortest distance.
@@ -70,8 +70,7 @@ pub fn recomputed(
     if count <= me {
         return [0u32; UNITS];
     }
-    let preferences = through::preferred(count, costs, through);
-    let links = links::taken_links(count, me, costs, copies, preferences);
+    let links = links::taken_links(count, me, costs, copies, through);
     let distances = shortest::shortest(count, me, links);
     tree_over(count, links, distances, me)
 }

@@ -1,5 +1,5 @@
-// Distances through neighbours, a row for each neighbour's copy, and which neighbour is preferred for each unit.
-ghost use Rattle.std.specs.Prelude.{◌≡◌, ◌≤◌, ◌<◌};
+// Distances through neighbours, a row for each neighbour's copy, and which neighbour is preferred for a unit.
+ghost use Rattle.std.specs.Prelude.{◌≡◌, ◌≤◌, ◌<◌, IfSome, unwrap_or};
 ghost use Rattle.ground.specs.Limits.{unit_limit, far};
 ghost use Rattle.ground.specs.Rows.{at, tab, filled, filled_rows};
 ghost use Rattle.tree.specs.Recompute.{preferred as preferences};
@@ -43,34 +43,25 @@ pub fn through_neighbours(
     rows
 }
 
-// The preferred neighbour for unit j: the least sum of link cost and distance, of equal sums the lowest number.
-fn preferred_for(count: usize, costs: [u32; UNITS], through: [[u32; UNITS]; UNITS], j: usize) -> u32
+// The preferred neighbour for unit j, if one reaches it: the least sum of link cost and distance, of equal sums the lowest number.
+pub(crate) fn preferred_for(
+    count: usize,
+    costs: [u32; UNITS],
+    through: [[u32; UNITS]; UNITS],
+    j: usize,
+) -> Option<usize>
     requires { (count ≤ unit_limit) × (j < count) }
-    ensures { result ≡ at (preferences count costs through) j }
+    ensures below { IfSome result (λ k. k < count) }
+    ensures preferred { unwrap_or result count ≡ at (preferences count costs through) j }
 {
     let mut nearest = FAR;
-    let mut best = count;
+    let mut best = None;
     for k in 0..count {
         let sum = heads::plus(costs[k], through[k][j]);
         if sum < nearest {
             nearest = sum;
-            best = k;
+            best = Some(k);
         }
     }
-    best as u32
-}
-
-pub(crate) fn preferred(
-    count: usize,
-    costs: [u32; UNITS],
-    through: [[u32; UNITS]; UNITS],
-) -> [u32; UNITS]
-    requires { count ≤ unit_limit }
-    ensures { result ≡ filled unit_limit (preferences count costs through) }
-{
-    let mut row = [0u32; UNITS];
-    for j in 0..count {
-        row[j] = preferred_for(count, costs, through, j);
-    }
-    row
+    best
 }

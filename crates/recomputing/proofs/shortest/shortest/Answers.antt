@@ -1,7 +1,6 @@
 -- `recomputing::shortest::shortest` meets its contract. The invariant: what settling units, nearest first, has made of the arrays.
 use native.Mathlib.Omega.{arith}
-use mathlib.Core.Path.{◌≡◌, refl}
-use borrow.Author.Rules.{rules}
+use mathlib.Core.Path.{◌≡◌}
 use Rattle.recomputing.proofs.Rounds.{turned_none, turned_more, turned_all, turned_done}
 use Rattle.recomputing.proofs.shortest.shortest.Goals as goal
 use Rattle.recomputing.proofs.shortest.shortest.Goals.{in-Some, in_default}

@@ -9,8 +9,8 @@ use lib.Dec.{eqb}
 use lib.ListN.{length, take, drop}
 use Rattle.std.specs.Prelude.{if◌then◌else◌}
 use Rattle.ground.specs.Rows.{at, same}
-use Rattle.ground.proofs.Tests.{both}
-use Rattle.lines.specs.Commands.{argument, is_spelled, meter_command_of, command_of}
+use Rattle.ground.proofs.Tests.{both, and_false}
+use Rattle.lines.specs.Commands.{is_arguments, argument, is_spelled, meter_command_of, command_of}
 use Rattle.lines.specs.Following.{argument_limit, Told, either_of, meter_chosen, others_chosen, chosen}
 use Rattle.lines.specs.Words.{word_end, first_word, after_word, units_name, up_name, cost_name, down_name, deliver_name, show_name}
 use Rattle.lines.specs.Words.{enter_name, move_name, drop_name, page_name}
@@ -85,3 +85,20 @@ chosen_lent line end metered {found} {other} e tells others is =
     let first = first_lent line end e in
     is
     ∙ rw first (chosen_command line found (rw (after_lent line end e) at tells) metered other (rw first at others))
+
+-- Where what follows the word is no decimals that a command has, the line is none.
+pub no_command : (line : List ℕ) (end : ℕ) (metered : Bool) → end ≡ word_end line
+    → ((k : ℕ) → k ≤ argument_limit → is_arguments k (take (length line - end) (drop end line)) ≡ false)
+    → Bad ≡ command_of metered line
+unfolding command_of meter_command_of
+no_command line end metered e none = go metered
+  where
+    spelled : (name : List ℕ) (k : ℕ) → k ≤ argument_limit → is_spelled name k line ≡ false
+    spelled name k h =
+        and_false (same (first_word line) name) (is_arguments k (after_word line)) (rw (after_lent line end e) at (none k h))
+
+    go : (metered : Bool) → Bad ≡ command_of metered line
+    go true =
+        simp (spelled units_name 1 (omega arith), spelled up_name 4 (omega arith), spelled cost_name 3 (omega arith), spelled down_name 2 (omega arith), spelled deliver_name 2 (omega arith), spelled show_name 0 (omega arith), spelled enter_name 3 (omega arith), spelled move_name 2 (omega arith), spelled drop_name 1 (omega arith), spelled page_name 0 (omega arith))
+    go false =
+        simp (spelled units_name 1 (omega arith), spelled up_name 4 (omega arith), spelled cost_name 3 (omega arith), spelled down_name 2 (omega arith), spelled deliver_name 2 (omega arith), spelled show_name 0 (omega arith))

@@ -93,11 +93,12 @@ module _ (rest list : List ℕ) (count used : ℕ) (read : Read rest list count 
     left_some = omega (arith, length-drop used rest)
 
     -- As many as a command has, and something is left.
-    pub told_many : count ≡ argument_limit → (k : ℕ) → k ≤ argument_limit → is_arguments k rest ≡ eqb (suc argument_limit) k
-    told_many full =
+    pub told_many : count ≡ argument_limit → (k : ℕ) → k ≤ argument_limit → is_arguments k rest ≡ false
+    told_many full k h =
         told (suc argument_limit) (omega arith) (λ k h.
         let none : k ≡ 0 = omega arith in
-        rw none (none_left (drop used rest) left_some ∙ sym (ne_eqb (suc argument_limit) (count + 0) (λ e. omega arith))))
+        rw none (none_left (drop used rest) left_some ∙ sym (ne_eqb (suc argument_limit) (count + 0) (λ e. omega arith)))) k h
+        ∙ ne_eqb (suc argument_limit) k (λ e. omega arith)
 
     module _ (end : ℕ) (e : end ≡ word_end (lent rest (used + 1))) where
       -- The word behind it, and what follows that.
@@ -117,10 +118,11 @@ module _ (rest list : List ℕ) (count used : ℕ) (read : Read rest list count 
 
       -- A word that is no decimal.
       pub told_bad : is_decimal (take end (lent rest (used + 1))) ≡ false
-          → (k : ℕ) → k ≤ argument_limit → is_arguments k rest ≡ eqb (suc argument_limit) k
-      told_bad bad =
+          → (k : ℕ) → k ≤ argument_limit → is_arguments k rest ≡ false
+      told_bad bad k h =
           told (suc argument_limit) (omega (arith, read.high)) (λ k h.
-          none k ∙ sym (ne_eqb (suc argument_limit) (count + k) (λ q. omega arith)))
+          none k ∙ sym (ne_eqb (suc argument_limit) (count + k) (λ q. omega arith))) k h
+          ∙ ne_eqb (suc argument_limit) k (λ e. omega arith)
         where
           none : (k : ℕ) → is_arguments k (drop used rest) ≡ false
           none zero = none_left (drop used rest) left_some

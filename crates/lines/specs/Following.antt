@@ -1,6 +1,6 @@
 -- Order: what is found of the decimals that follow a word, and the command that a word and they are. proofs/Choosing.antt shows
 -- that it is `command_of`.
-use Rattle.std.specs.Prelude.{ℕ, ◌≤◌, ◌<◌, Bool, ◌&&◌, List, ◌≡◌, eqb}
+use Rattle.std.specs.Prelude.{ℕ, ◌≤◌, ◌<◌, Bool, false, ◌&&◌, List, Option, Some, None, ◌≡◌, eqb}
 use Rattle.std.specs.Prelude.{if◌then◌else◌}
 use Rattle.ground.specs.Rows.{at, same}
 use Rattle.lines.specs.Commands.{is_arguments, argument}
@@ -14,10 +14,15 @@ use Rattle.lines.specs.declared.Found.{Found}
 abbrev pub argument_limit : ℕ
 argument_limit = 4
 
--- Decimals that are found are as many as follow, if no more than a command has, and have the numbers of those.
+-- Decimals that are found are as many as follow, and have the numbers of those.
 pub record Told (rest : List ℕ) (found : Found) : Type 0 where
   pub counted : (k : ℕ) → k ≤ argument_limit → is_arguments k rest ≡ eqb found.count k
   pub listed : (i : ℕ) → i < found.count → found.count ≤ argument_limit → at found.list i ≡ argument i rest
+
+-- Where none are found, what follows is not decimals, or more of them than a command has.
+abbrev pub TellsOf : (rest : List ℕ) → Option Found → Type 0
+TellsOf rest (Some found) = Told rest found
+TellsOf rest None = (k : ℕ) → k ≤ argument_limit → is_arguments k rest ≡ false
 
 -- The first command, where a word is a name that has k decimals and as many are found, and otherwise the second.
 unfoldable pub either_of : (word : List ℕ) (count : ℕ) (name : List ℕ) (k : ℕ) (first second : Command) → Command

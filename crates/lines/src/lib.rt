@@ -5,16 +5,13 @@
 ghost use Rattle.std.specs.Prelude.{true, ◌≡◌, ◌≤◌, length};
 ghost use Rattle.ground.specs.Rows.{at, every};
 ghost use Rattle.lines.specs.Commands.{command_of};
-ghost use Rattle.lines.specs.Following.{Told, either_of, chosen, meter_chosen, others_chosen};
+ghost use Rattle.lines.specs.Following.{TellsOf, either_of, chosen, meter_chosen, others_chosen};
 ghost use Rattle.lines.specs.Words.{word_end, is_digit, is_decimal, value_of};
 
 // The most digits of a decimal, and the most decimals of a command.
 const DIGITS: usize = 9;
 
 const ARGUMENTS: usize = 4;
-
-// The count of decimals that no command has, and of what is not decimals.
-const TOO_MANY: usize = ARGUMENTS + 1;
 
 #[derive(Clone, Copy)]
 pub enum Command {
@@ -32,7 +29,7 @@ pub enum Command {
     Bad,
 }
 
-// The decimals that follow a word: how many they are, or TOO_MANY, and their numbers.
+// The decimals that follow a word: how many they are, and their numbers.
 #[derive(Clone, Copy)]
 struct Found {
     count: usize,
@@ -86,9 +83,10 @@ fn value(word: &[u8]) -> u32
     number
 }
 
-// The decimals that follow a word, each after a space. What follows a word begins with a space.
-fn arguments(rest: &[u8]) -> Found
-    ensures { Told rest.now result }
+// The decimals that follow a word, each after a space, if nothing else does and no command has fewer. What follows a word begins
+// with a space.
+fn arguments(rest: &[u8]) -> Option<Found>
+    ensures { TellsOf rest.now result }
 {
     let mut list = [0u32; ARGUMENTS];
     let mut count = 0;
@@ -96,26 +94,20 @@ fn arguments(rest: &[u8]) -> Found
     // Each turn takes a space and a word, so the place moves on by the word's length.
     while used < rest.len() {
         if count == ARGUMENTS {
-            return Found {
-                count: TOO_MANY,
-                list,
-            };
+            return None;
         }
         let more = &rest[used + 1..];
         let end = word_end(more);
         let word = &more[..end];
         if !is_decimal(word) {
-            return Found {
-                count: TOO_MANY,
-                list,
-            };
+            return None;
         }
         let number = value(word);
         list[count] = number;
         count += 1;
         used += 1 + end;
     }
-    Found { count, list }
+    Some(Found { count, list })
 }
 
 // The first command, where the word is its name and as many decimals follow as it has, and otherwise the second.
@@ -173,7 +165,9 @@ pub fn parse(line: &[u8], metered: bool) -> Command
     ensures { result ≡ command_of metered line.now }
 {
     let end = word_end(line);
-    let found = arguments(&line[end..]);
+    let Some(found) = arguments(&line[end..]) else {
+        return Command::Bad;
+    };
     let list = found.list;
     let word = &line[..end];
     let other = others(word, found.count, list[0], list[1], list[2], metered);

@@ -11,22 +11,15 @@ loop-used-init c = (search rules, search rules, read_none _ _)
 
 pub returns-then-count-eq-ARGUMENTS : goal.returns-then-count-eq-ARGUMENTS
 returns-then-count-eq-ARGUMENTS c =
-    let here = c.loop-used in
-    record {
-      counted = told_many _ _ _ _ here.invariant.2 c.loop-used-test.true c.if-count-eq-ARGUMENTS.true;
-      listed = λ i l h. absurd (omega arith);
-    }
+    λ k h. told_many _ _ _ _ c.loop-used.invariant.2 c.loop-used-test.true c.if-count-eq-ARGUMENTS.true k h
 
 pub slice_bounds-word-end : goal.slice_bounds-word-end
 slice_bounds-word-end c = simp (length-take, length-drop) (omega arith)
 
 pub returns-then-not-is_decimal : goal.returns-then-not-is_decimal
 returns-then-not-is_decimal c =
-    record {
-      counted = told_bad _ _ _ _ c.loop-used.invariant.2 c.loop-used-test.true _
-          c.word_end-end.ensures.end (sym c.is_decimal.ensures ∙ c.if-not-is_decimal.true);
-      listed = λ i l h. absurd (omega arith);
-    }
+    λ k h. told_bad _ _ _ _ c.loop-used.invariant.2 c.loop-used-test.true _ c.word_end-end.ensures.end
+    (sym c.is_decimal.ensures ∙ c.if-not-is_decimal.true) k h
 
 pub value-number-requires : goal.value-number-requires
 value-number-requires c = sym c.is_decimal.ensures ∙ c.if-not-is_decimal.false

@@ -1,5 +1,5 @@
 -- `lines::either` meets its contract: the word is tested, and then how many decimals follow.
-use mathlib.Core.Path.{◌≡◌, sym, ◌∙◌}
+use mathlib.Core.Path.{sym, ◌∙◌}
 use borrow.Author.Tests.{eq-eqb, ne_eqb}
 use Rattle.slices.proofs.Alike.{alike}
 use Rattle.lines.specs.Following.{either_of}

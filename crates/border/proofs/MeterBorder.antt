@@ -1,12 +1,11 @@
 -- What a meter's calls and questions at the border come to: tables of another length are unfit; with the right lengths, what is
 -- done with the numbers is what is done with the bytes.
 use Prim.Native.Nat.{ℕ}
-use mathlib.Core.Bool.{true, false, ◌&&◌}
+use mathlib.Core.Bool.{true, false}
 use mathlib.Core.List.{List}
 use mathlib.Core.Logic.{◌≢◌}
-use mathlib.Core.Path.{◌≡◌, refl, ap, ◌∙◌}
+use mathlib.Core.Path.{◌≡◌, ap, ◌∙◌}
 use borrow.Author.Tests.{eq-eqb, ne_eqb}
-use lib.Dec.{eqb}
 use lib.ListN.{length}
 use Rattle.rules.specs.Hub.{hub_answer}
 use Rattle.rules.specs.Tables.{bytes_of, words_of}

@@ -1,12 +1,15 @@
 -- A table's numbers taken out of its bytes, and laid over them.
-use Prim.Native.Nat.{ℕ, suc, ◌+◌, ◌*◌, ◌/◌, ◌%◌, ◌≤◌, ◌<◌}
+use Prim.Native.Nat.{ℕ, ◌+◌, ◌*◌, ◌/◌, ◌%◌, ◌≤◌, ◌<◌}
 use native.Mathlib.Nat.{zero-add}
 use native.Mathlib.Numerals.{add-one}
 use native.Mathlib.Omega.{arith}
 use mathlib.Core.List.{List, [], ◌∷◌, ◌++◌, append-nil, append_assoc}
 use mathlib.Core.Path.{◌≡◌, refl, sym, ap, ◌∙◌}
-use lib.ListN.{length, set, take, drop, length-drop, drop_of_length-le}
-use lib.Seq.{take-suc, take_all, drop-drop, length-take-le, paste-suc}
+use lib.ListN.{length, set, take, drop, drop_of_length-le}
+use lib.Seq.{take-suc, take_all, take_at, drop_at, drop-drop, length-take-le, paste-suc}
+use borrow.Rule.Slice.PartMut.{put_mid}
+use Rattle.std.proofs.Common.{w32}
+use Rattle.std.specs.Int.{to_be_bytes}
 use Rattle.ground.specs.Rows.{at}
 use Rattle.rules.specs.Tables.{bytes_of, words_of}
 use Rattle.ground.proofs.Rows.{length_tab, tab_at}
@@ -55,25 +58,6 @@ bytes_append (x ∷ xs) ys =
 abbrev pub laid : (bytes numbers : List ℕ) (i : ℕ) → List ℕ
 laid bytes numbers i = bytes_of (take i numbers) ++ drop (4 * i) bytes
 
--- Four stores after the first bytes.
-four_set : (xs rest : List ℕ) (a b c d : ℕ) → 4 ≤ length rest
-    → set (set (set (set (xs ++ rest) (length xs) a) (suc (length xs)) b) (suc (suc (length xs))) c) (suc (suc (suc (length xs)))) d
-    ≡ xs ++ (a ∷ b ∷ c ∷ d ∷ drop 4 rest)
-four_set [] [] a b c d h = absurd (omega arith)
-four_set [] (v ∷ []) a b c d h = absurd (omega arith)
-four_set [] (v ∷ w ∷ []) a b c d h = absurd (omega arith)
-four_set [] (v ∷ w ∷ x ∷ []) a b c d h = absurd (omega arith)
-four_set [] (v ∷ w ∷ x ∷ y ∷ rest) a b c d h = refl
-four_set (x ∷ xs) rest a b c d h = ap (λ zs. x ∷ zs) (four_set xs rest a b c d h)
-
-four_at : (xs rest : List ℕ) (p a b c d : ℕ) → length xs ≡ p → 4 ≤ length rest
-    → set (set (set (set (xs ++ rest) p a) (p + 1) b) (p + 2) c) (p + 3) d ≡ xs ++ (a ∷ b ∷ c ∷ d ∷ drop 4 rest)
-four_at xs rest p a b c d e h =
-    let second : p + 1 ≡ suc (length xs) = omega arith in
-    let third : p + 2 ≡ suc (suc (length xs)) = omega arith in
-    let fourth : p + 3 ≡ suc (suc (suc (length xs))) = omega arith in
-    rw (second, third, fourth, ← e) (four_set xs rest a b c d h)
-
 module _ (bytes numbers : List ℕ) where
   pub laid_none : bytes ≡ laid bytes numbers 0
   unfolding bytes_of
@@ -85,23 +69,20 @@ module _ (bytes numbers : List ℕ) where
 
   module _ (long : length bytes ≡ 4 * length numbers) where
     -- One turn of the loop.
-    pub laid_more : (i w : ℕ) → i < length numbers → w ≡ at numbers i
-        → set
-        (set (set (set (laid bytes numbers i) (4 * i) (w / 16777216 % 256)) (4 * i + 1) (w / 65536 % 256)) (4 * i + 2) (w / 256 % 256))
-        (4 * i + 3)
-        (w % 256)
-        ≡ laid bytes numbers (i + 1)
+    pub laid_more : (i k : ℕ) → i < length numbers → k ≡ 4 → {four : List ℕ} → four ≡ to_be_bytes w32 (at numbers i)
+        → put_mid (4 * i) k (laid bytes numbers i) four ≡ laid bytes numbers (i + 1)
     unfolding bytes_of
-    laid_more i w l q =
+    laid_more i k l q e =
         let first = bytes_of (take i numbers) in
-        let four : List ℕ → List ℕ = λ rest. w / 16777216 % 256 ∷ w / 65536 % 256 ∷ w / 256 % 256 ∷ w % 256 ∷ rest in
-        let next : take (i + 1) numbers ≡ take i numbers ++ (w ∷ []) =
-        rw (q, add-one) (take-suc numbers i 0 l) in
+        let rest = drop (4 * i) bytes in
+        let four = to_be_bytes w32 (at numbers i) in
+        let long : length first ≡ 4 * i = length_first i (omega arith) in
+        let next : take (i + 1) numbers ≡ take i numbers ++ (at numbers i ∷ []) = rw add-one (take-suc numbers i 0 l) in
         let end : 4 * i + 4 ≡ 4 * (i + 1) = omega arith in
-        four_at first (drop (4 * i) bytes) (4 * i) _ _ _ _ (length_first i (omega arith)) (omega (arith, length-drop (4 * i) bytes))
-        ∙ ap (λ rest. first ++ four rest) (drop-drop 4 (4 * i) bytes ∙ ap (λ k. drop k bytes) end)
-        ∙ sym (append_assoc first (four []) (drop (4 * (i + 1)) bytes))
-        ∙ ap (λ zs. zs ++ drop (4 * (i + 1)) bytes) (sym (ap bytes_of next ∙ bytes_append (take i numbers) (w ∷ [])))
+        rw (e, q, take_at first rest (4 * i) long, drop_at first rest (4 * i) long)
+        (ap (λ last. first ++ (four ++ last)) (drop-drop 4 (4 * i) bytes ∙ ap (λ n. drop n bytes) end)
+        ∙ sym (append_assoc first four (drop (4 * (i + 1)) bytes))
+        ∙ ap (λ zs. zs ++ drop (4 * (i + 1)) bytes) (sym (ap bytes_of next ∙ bytes_append (take i numbers) (at numbers i ∷ []))))
 
     pub laid_all : (i : ℕ) → i ≡ length numbers → laid bytes numbers i ≡ bytes_of numbers
     laid_all i e =

@@ -2,7 +2,7 @@
 -- Tables of another length are unfit.
 use Rattle.std.specs.Prelude.{ℕ, ◌*◌, Bool, not, ◌&&◌, List, eqb, length}
 use Rattle.std.specs.Prelude.{if◌then◌else◌}
-use Rattle.ground.specs.Refusal.{accepted, ◌gives◌}
+use Rattle.ground.specs.Refusal.{◌gives◌}
 use Rattle.rules.specs.Tables.{bytes_of, words_of}
 use Rattle.frames.specs.Meter.{fresh_meter, MeterCall, enters, moves, drops}
 use Rattle.frames.specs.MeterTable.{meter_words, laid_meter, meter_answer, meter_after}

@@ -3,7 +3,6 @@
 use Rattle.std.specs.Prelude.{ℕ, ◌*◌, Bool, not, ◌&&◌, List, eqb, length}
 use Rattle.std.specs.Prelude.{if◌then◌else◌}
 use Rattle.ground.specs.Refusal.{accepted, ◌gives◌, ◌otherwise◌}
-use Rattle.rules.specs.Hub.{hub_answer}
 use Rattle.rules.specs.Network.{Call, up, cost, down, deliver, fresh, fresh_refusal}
 use Rattle.rules.specs.NetworkTable.{network_answer, words_after, bytes_after, path_after}
 use Rattle.rules.specs.Tables.{network_words, network_bytes, laid_units, laid_queues, bytes_of, words_of}

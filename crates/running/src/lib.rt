@@ -7,7 +7,7 @@
 // A read or a write that fails is told on standard error, and ends the program: it is not taken for the end of the input.
 #![tactic(auto)]
 
-ghost use Rattle.std.specs.Prelude.{◌≤◌, ◌<◌, ◌≡◌, length};
+ghost use Rattle.std.specs.Prelude.{◌≤◌, ◌≡◌, length};
 ghost use Rattle.frames.specs.MeterTable.{meter_words};
 
 use ground::{METER_WORDS, NETWORK_BYTES, NETWORK_WORDS};

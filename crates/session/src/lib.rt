@@ -130,7 +130,7 @@ pub fn feed(
     ensures inside { result.used ≤ max used (length out.new) }
 {
     let mut reached = Reached { place, held, used };
-    // Each turn says where it came to, so there is no counting to `for`.
+    // A turn takes as many bytes as its line has, so where the next one begins is the answer of the one before.
     while reached.place < chunk.len() {
         if !goes_on(line.len(), reached.held, out.len(), reached.used) {
             return reached;

@@ -1,5 +1,5 @@
 // Steps B to F of one event, on the arrays of a unit whose tables step A has changed.
-ghost use Rattle.std.specs.Prelude.{◌≡◌, not, ◌&&◌, min, ◌≤◌, length, take};
+ghost use Rattle.std.specs.Prelude.{◌≡◌, not, ◌≤◌, length, take};
 ghost use Rattle.std.specs.Prelude.{if◌then◌else◌};
 ghost use Rattle.ground.specs.Limits.{unit_limit, firmware_room};
 ghost use Rattle.ground.specs.Rows.{same, filled};

@@ -24,7 +24,6 @@ use Rattle.rules.specs.NetworkTable.{network_refusal}
 use Rattle.rules.specs.Tables.{laid_queue, network_from, fit_tables}
 use Rattle.rules.specs.Unit.{Unit, awaits}
 use Rattle.ground.proofs.Each.{each_at}
-use Rattle.ground.proofs.Lists.{parts}
 use Rattle.ground.proofs.Tests.{if_true, if_false}
 use Rattle.rules.proofs.Fit.{FitNetwork, fit_tables_of, fit_network_shaped}
 use Rattle.rules.proofs.Laid.{no_message}

@@ -1,25 +1,18 @@
--- `border::words::take_numbers` meets its contract: the invariant: the first i numbers are taken, those after them are as they came.
-use Prim.Native.Nat.{◌-◌}
+-- `border::words::take_numbers` meets its contract.
 use native.Mathlib.Omega.{arith}
 use mathlib.Core.Path.{refl, ◌∙◌}
-use borrow.Author.Rules.{rules}
-use lib.ListN.{length-set}
 use Rattle.border.proofs.Numbers.{taken_more, taken_all}
 use Rattle.border.proofs.words.take_numbers.Goals as goal
 
 pub loop-i-init : goal.loop-i-init
-loop-i-init c = (search rules, refl, refl)
+loop-i-init c = refl
 
 pub loop-i-preserved : goal.loop-i-preserved
 loop-i-preserved c =
-    let here = c.loop-i in (
-      search rules,
-      simp length-set here.invariant.1,
-      rw here.invariant.2
-          (taken_more c.args.bytes.now c.args.numbers.now c.requires here.i _ (omega arith) c.word.ensures),
-    )
+    let here = c.loop-i in
+    rw here.invariant
+    (taken_more c.args.bytes.now c.args.numbers.now c.requires here.i _ (omega arith) c.word.ensures)
 
 pub returns : goal.returns
 returns c =
-    c.loop-i.invariant.2
-    ∙ taken_all c.args.bytes.now c.args.numbers.now c.requires c.loop-i.i (omega arith)
+    c.loop-i.invariant ∙ taken_all c.args.bytes.now c.args.numbers.now c.requires c.loop-i.i (omega arith)

@@ -3,7 +3,6 @@ use native.Mathlib.Omega.{arith}
 use mathlib.Core.Bool.{true}
 use mathlib.Core.Path.{◌≡◌, sym, ◌∙◌}
 use borrow.Author.Rules.{rules}
-use borrow.Author.Tests.{not-true, not-false}
 use Rattle.rules.specs.Tables.{fit_tables}
 use Rattle.fitness.proofs.FitTables.{fit_length}
 use Rattle.network.proofs.calls.ends_refusal.Statement.{statement}

@@ -1,5 +1,4 @@
 -- `network::fresh::fresh_units` meets its contract. The invariant: the tables of the first i fresh units are laid.
-use Prim.Native.Nat.{◌-◌}
 use native.Mathlib.Omega.{arith}
 use mathlib.Core.Path.{◌≡◌, refl, ◌∙◌}
 use borrow.Author.Rules.{rules}

@@ -1,5 +1,5 @@
 -- The invariant: the tables of the first i fresh units are laid.
-use Prim.Native.Nat.{◌-◌, ◌≤◌}
+use Prim.Native.Nat.{◌≤◌}
 use mathlib.Core.Path.{◌≡◌}
 use lib.ListN.{length}
 use Rattle.network.proofs.fresh.FreshTables.{fresh_tables}

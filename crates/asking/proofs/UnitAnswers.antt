@@ -5,10 +5,13 @@ use mathlib.Core.Bool.{Bool, true, false, not, ◌&&◌}
 use mathlib.Core.List.{List}
 use mathlib.Core.Logic.{◌≢◌}
 use mathlib.Core.Path.{◌≡◌, refl, sym, ap, ◌∙◌}
-use borrow.Author.Tests.{ltb-true, not-false, lt-ltb, ne_eqb}
+use borrow.Author.Tests.{ltb-true, not-false, lt-ltb}
 use lib.Dec.{eqb, ltb}
-use Rattle.std.specs.Prelude.{if◌then◌else◌}
+use Rattle.std.specs.Prelude.{Result, Ok, Err, if◌then◌else◌}
 use Rattle.ground.specs.Refusal.{accepted, ◌gives◌, ◌otherwise◌, answer_base}
+use Rattle.ground.specs.Refused.{number_of, refused_as}
+use Rattle.ground.specs.declared.refusals.Refusal.{Refusal}
+use Rattle.ground.specs.declared.refusals.Refusal.TheVariants.{Unfit, NoUnit}
 use Rattle.ground.specs.Rows.{at}
 use Rattle.rules.specs.Hub.{reachable, active_answer, question_refusal, distance_answer, feasible_answer, successors_answer, link_answer, awaits_answer}
 use Rattle.rules.specs.Network.{unit_at}
@@ -16,11 +19,12 @@ use Rattle.rules.specs.NetworkTable.{unit_refusal, pair_refusal, state_answer, d
 use Rattle.rules.specs.NetworkTable.{successors_between, link_between, awaits_between}
 use Rattle.rules.specs.Tables.{unit_from, network_from, fit_unit_table, fit_tables}
 use Rattle.rules.specs.Unit.{Unit, is_active, own_distance, successor_set}
-use Rattle.state.specs.Asked.{row_of, no_row, row_answer, asked_of}
+use Rattle.state.specs.Asked.{row_of, row_answer, asked_of}
 use Rattle.state.specs.declared.questions.Question.{Question}
 use Rattle.state.specs.declared.questions.Question.TheVariants.{Distance, Feasible, Successors, Link, Awaits}
+use Rattle.ground.proofs.Answers.{number_once, number_some}
 use Rattle.ground.proofs.Refusal.{gives_none, otherwise_none}
-use Rattle.ground.proofs.Tests.{both, if_false}
+use Rattle.ground.proofs.Tests.{both}
 use Rattle.rules.proofs.Fit.{fit_tables_of}
 use Rattle.state.proofs.QuestionAnswers.{refused}
 use Rattle.fitness.proofs.FitTables.{unit_is, table_fits}
@@ -47,6 +51,19 @@ first_given false test more d = refl
 first_given true false more d = refl
 first_given true true more d = absurd (d refl)
 
+-- The refusal of an answer that is given by two tests.
+first_of_two : {Value : Type 0} (fit test : Bool) (value : Value)
+    → refused_as (if not fit then Err Unfit else if not test then Err NoUnit else Ok value)
+    ≡ (not fit gives 2 otherwise not test gives 3)
+first_of_two false test value = refl
+first_of_two true false value = refl
+first_of_two true true value = refl
+
+-- A refusal is an answer that has its number.
+same_refused : {Value : Type 0} (why : Refusal) (answer : Result Value Refusal) → number_of why ≡ refused_as answer → Err why ≡ answer
+same_refused why (Ok value) e = absurd (number_some why e)
+same_refused why (Err refusal) e = ap Err (number_once why refusal e)
+
 module _ (words bytes : List ℕ) (i : ℕ) where
   -- A question about unit i that is not refused: the tables are fit, and i is a unit.
   pub unit_asked : unit_refusal words bytes i ≡ accepted → (fit_tables words bytes ≡ true) × (i < at words 0)
@@ -66,17 +83,20 @@ module _ (words bytes : List ℕ) (i : ℕ) where
 
   -- All answers of the unit at once are the network's.
   pub row_asked : unit_refusal words bytes i ≡ accepted → row_answer (table_in words i) ≡ row_at words bytes i
-  unfolding row_answer row_at
+  unfolding row_answer row_at network_from
   row_asked e =
       let known = unit_asked e in
-      rw (table_fits words bytes known.0 i known.1, e) (ap row_of (unit_is words bytes known.0 i known.1))
+      rw (table_fits words bytes known.0 i known.1, known.0, lt-ltb i (at words 0) known.1)
+      (ap (λ (u : Unit). Ok (row_of u)) (unit_is words bytes known.0 i known.1))
 
-  -- And so is a refusal alone.
-  pub row_refused : {number : ℕ} → number ≡ unit_refusal words bytes i → number ≢ accepted
-      → no_row number ≡ row_at words bytes i
+  -- They are refused as a question about the unit is.
+  pub row_refusal : refused_as (row_at words bytes i) ≡ unit_refusal words bytes i
   unfolding row_at
-  row_refused e d =
-      ap no_row e ∙ sym (if_false (eqb (unit_refusal words bytes i) accepted) _ _ (ne_eqb _ accepted (λ z. d (e ∙ z))))
+  row_refusal = first_of_two (fit_tables words bytes) (ltb i (network_from words bytes).count) _
+
+  -- So a refusal is the same.
+  pub row_refused : (why : Refusal) → number_of why ≡ unit_refusal words bytes i → Err why ≡ row_at words bytes i
+  row_refused why e = same_refused why (row_at words bytes i) (e ∙ sym row_refusal)
 
   module _ (j : ℕ) where
     -- What refuses a question about unit i refuses one about i and j.
@@ -122,11 +142,11 @@ module _ (words bytes : List ℕ) (i : ℕ) where
       pair_answers Awaits = asked_value (λ u. answer_base + at u.awaited j)
 
     -- What refuses it is the network's answer.
-    pub pair_refuses : (q : Question) {number : ℕ} → number ≡ pair_refusal words bytes i j → number ≢ accepted
-        → number ≡ asked_between q words bytes i j
+    pub pair_refuses : (q : Question) (why : Refusal) → number_of why ≡ pair_refusal words bytes i j
+        → number_of why ≡ asked_between q words bytes i j
     unfolding distance_between feasible_between successors_between link_between awaits_between
-    pair_refuses Distance e d = refused _ e d
-    pair_refuses Feasible e d = refused _ e d
-    pair_refuses Successors e d = refused _ e d
-    pair_refuses Link e d = refused _ e d
-    pair_refuses Awaits e d = refused _ e d
+    pair_refuses Distance why e = refused _ why e
+    pair_refuses Feasible why e = refused _ why e
+    pair_refuses Successors why e = refused _ why e
+    pair_refuses Link why e = refused _ why e
+    pair_refuses Awaits why e = refused _ why e

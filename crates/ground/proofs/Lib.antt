@@ -16,6 +16,7 @@ pub mod OneOutput
 pub mod Parts
 pub mod Pigeonhole
 pub mod Places
+pub mod Reached
 pub mod Refusal
 pub mod Rows
 pub mod Said

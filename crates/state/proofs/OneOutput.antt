@@ -1,6 +1,8 @@
 -- The contract of each public function leaves one output (`OneOutput` of ground/specs/Unique.antt).
 use Rattle.ground.specs.Unique.{OneOutput}
 use Rattle.state.specs.contracts as said
+use Rattle.ground.proofs.Answers.{done_once, test_once}
+use Rattle.ground.proofs.Reached.{reached_once}
 use Rattle.ground.proofs.Unique.{agree}
 use Rattle.state.proofs.fit
 use Rattle.state.proofs.held
@@ -22,16 +24,15 @@ fit_is_fit_once _ _ _ _ p q i = (agree p q i, _)
 
 -- The fresh table with its answer, and the answers to questions.
 pub questions_fresh_once : OneOutput said.questions.fresh.ended questions.fresh.Reads.Learnt
-questions_fresh_once _ _ _ _ p q i = (agree p.0 q.0 i, (_, (_, (agree p.1 q.1 i, _))))
+questions_fresh_once _ _ first second p q i =
+    (done_once first.0 second.0 (agree p.0 q.0) i, (_, (_, (agree p.1 q.1 i, _))))
 
 pub questions_active_once : OneOutput said.questions.active.ended questions.active.Reads.Learnt
-questions_active_once _ _ _ _ p q i = (agree p q i, _)
+questions_active_once _ _ first second p q i = (test_once first.0 second.0 (agree p q) i, _)
 
 pub questions_ask_once : OneOutput said.questions.ask.ended questions.ask.Reads.Learnt
-questions_ask_once _ _ _ _ p q i = (agree p q i, _)
+questions_ask_once _ _ first second p q i =
+    (reached_once first.0 second.0 p.1 q.1 (agree p.0 q.0) i, _)
 
 pub questions_row_of_once : OneOutput said.questions.row_of.ended questions.row_of.Reads.Learnt
 questions_row_of_once _ _ _ _ p q i = (agree p q i, _)
-
-pub questions_refused_once : OneOutput said.questions.refused.ended questions.refused.Reads.Learnt
-questions_refused_once _ _ _ _ p q i = (agree p q i, _)

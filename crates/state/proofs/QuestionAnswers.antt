@@ -1,23 +1,26 @@
 -- Questions to a unit's table: what it tells that nothing refuses the question, and that each answer is within its width.
-use Prim.Native.Nat.{ℕ, ◌+◌, ◌^◌, ◌≤◌, ◌<◌}
+use Prim.Native.Nat.{ℕ, ◌+◌, ◌-◌, ◌^◌, ◌≤◌, ◌<◌}
 use native.Mathlib.Nat.{pow-le-pow_right}
 use native.Mathlib.Omega.{arith}
-use mathlib.Core.Bool.{Bool, true, not}
+use mathlib.Core.Bool.{Bool, true, not, ◌&&◌}
 use mathlib.Core.List.{List, ◌∷◌, ◌++◌, append_assoc}
-use mathlib.Core.Logic.{◌⊎◌, inl, inr, ⊎_elim, ◌≢◌}
+use mathlib.Core.Logic.{◌⊎◌, inl, inr, ⊎_elim}
 use mathlib.Core.Path.{◌≡◌, refl, sym, ap, ◌∙◌}
-use borrow.Author.Tests.{eq-eqb, ne_eqb, eqb-true, ltb-true, not-false}
-use lib.Dec.{eqb, ltb}
+use borrow.Author.Tests.{eq-eqb, ne_eqb, eqb-true, le-leb, ltb-true, not-false}
+use lib.Dec.{eqb, ltb, leb}
 use lib.ListN.{length, take, drop, length-append, length-replicate, get_or-append}
 use lib.Seq.{drop_at}
 use Rattle.std.specs.Prelude.{if◌then◌else◌}
 use Rattle.ground.specs.Limits.{unit_limit, far, longest}
 use Rattle.ground.specs.Refusal.{accepted, ◌gives◌}
+use Rattle.ground.specs.Refused.{number_of}
+use Rattle.ground.specs.declared.refusals.Refusal.{Refusal}
 use Rattle.ground.specs.Rows.{at, tab, filled}
-use Rattle.tree.specs.Tree.{distance}
+use Rattle.tree.specs.Tree.{distance_within, distance}
 use Rattle.rules.specs.Hub.{question_refusal, hub_question_refusal}
 use Rattle.rules.specs.Tables.{successors_at, unit_words, part, laid_row, laid_unit, unit_from, fit_unit_table}
 use Rattle.rules.specs.Unit.{Unit, is_active, own_distance, is_successor, successor_set}
+use Rattle.ground.proofs.Answers.{number_some}
 use Rattle.ground.proofs.Bits.{bits_below}
 use Rattle.ground.proofs.Filled.{length_filled, take_filled}
 use Rattle.ground.proofs.Lists.{parts, tab_part, at_from}
@@ -34,18 +37,23 @@ use Rattle.state.specs.Holding.{held_of, unit_of}
 use Rattle.state.specs.declared.held.Held.{Held}
 use Rattle.state.proofs.Holding.{laid_held, holds_back}
 
--- A number that is the refusal is the answer where it is one; else the value is.
-module _ (value : ℕ) {number refusal : ℕ} (e : number ≡ refusal) where
-  pub refused : number ≢ accepted → number ≡ (if eqb refusal accepted then value else refusal)
-  refused d = e ∙ sym (if_false (eqb refusal accepted) value refusal (ne_eqb refusal accepted (λ z. d (e ∙ z))))
+-- A refusal is the answer; where there is none the value is.
+module _ (value : ℕ) {refusal : ℕ} where
+  pub refused : (why : Refusal) → number_of why ≡ refusal → number_of why ≡ (if eqb refusal accepted then value else refusal)
+  refused why e = e ∙ sym (if_false (eqb refusal accepted) value refusal (ne_eqb refusal accepted (λ z. number_some why (e ∙ z))))
 
-  pub answered : number ≡ accepted → value ≡ (if eqb refusal accepted then value else refusal)
-  answered z = sym (if_true (eqb refusal accepted) value refusal (eq-eqb refusal accepted (sym e ∙ z)))
+  pub answered : accepted ≡ refusal → value ≡ (if eqb refusal accepted then value else refusal)
+  answered e = sym (if_true (eqb refusal accepted) value refusal (eq-eqb refusal accepted (sym e)))
 
 -- What `held::load` asks of a table, which a fit one has.
 pub loadable : (words : List ℕ) → fit_unit_table words ≡ true → (length words ≡ unit_words) × (at words 0 ≤ unit_limit)
 unfolding fit_unit_table unit_from
 loadable words e = (eqb-true (length words) unit_words (search parts), (fit_table_facts words e).high)
+
+-- The unit that is loaded has no more units than the limit.
+pub loaded_low : (words : List ℕ) → fit_unit_table words ≡ true → {h : Held} → h ≡ held_of (unit_from words) → h.count ≤ unit_limit
+unfolding unit_from
+loaded_low words e held = omega (arith, ap (λ (h : Held). h.count) held, (loadable words e).1)
 
 -- What a question that nothing refuses tells: the table is fit, and the destination is a unit.
 pub record Asked (words : List ℕ) (to : ℕ) : Type 0 where
@@ -70,6 +78,27 @@ distance-within n root tree j low most =
     (λ l. inl (omega (arith, distance_legal n root tree j l)))
     (λ l. inr (omega arith))
     (less_or_not (distance n root tree j) far)
+
+-- The distance in the tree that is loaded is the unit's own, and within that.
+pub own_measured : (words : List ℕ) (to : ℕ) → Asked words to → {h : Held} → h ≡ held_of (unit_from words)
+    → distance_within h.me (take h.count h.tree) (h.count - 1) to ≡ own_distance (unit_from words) to
+own_measured words to a held =
+    let u = unit_from words in
+    ap (λ (h : Held). distance_within h.me (take h.count h.tree) (h.count - 1) to) held
+    ∙ ap (λ (tree : List ℕ). distance u.count u.me tree to)
+    (take_filled unit_limit u.tree u.count (fit_unit_shaped words a.fit).tree)
+
+pub own_within : (words : List ℕ) (to : ℕ) → Asked words to → {found : ℕ} → found ≡ own_distance (unit_from words) to → found ≤ far
+    → (found ≤ longest) ⊎ (found ≡ far)
+own_within words to a own most =
+    let u = unit_from words in
+    rw own (distance-within u.count u.me u.tree to (fit_table_facts words a.fit).high (omega (arith, sym own)))
+
+-- The feasible distance that is loaded is the unit's.
+pub feasible_read : (words : List ℕ) (to : ℕ) {h : Held} → h ≡ held_of (unit_from words)
+    → at h.feasible to ≡ at (unit_from words).feasible to
+feasible_read words to held =
+    ap (λ (h : Held). at h.feasible to) held ∙ at_filled unit_limit (unit_from words).feasible to
 
 -- A feasible distance of a fit unit is.
 pub feasible_within : (u : Unit) → FitFacts u → (j : ℕ) → j < u.count
@@ -127,13 +156,20 @@ fit_sets words e =
     ∙ tab_ext n (λ j. at words (successors_at + j)) (successor_set (unit_from words))
     (λ j l. fit_set words j (record { fit = e; below = l }))
 
+-- Whether the unit that is held awaits something.
+pub active_held : (words : List ℕ) → fit_unit_table words ≡ true → {h : Held} → h ≡ held_of (unit_from words)
+    → (leb h.count unit_limit && is_active (unit_of h)) ≡ is_active (unit_from words)
+unfolding unit_from
+active_held words e held =
+    let low : at words 0 ≤ unit_limit = (loadable words e).1 in
+    rw held (rw (le-leb (at words 0) unit_limit low) (ap is_active (holds_back (unit_from words) (fit_unit_shaped words e))))
+
 -- What is asked of a fit table at once, from the unit that is held.
 pub row_held : (words : List ℕ) → fit_unit_table words ≡ true → {h : Held} {active : Bool} {distances successors : List ℕ}
-    → h ≡ held_of (unit_from words) → active ≡ is_active (unit_of h)
+    → h ≡ held_of (unit_from words) → active ≡ (leb h.count unit_limit && is_active (unit_of h))
     → distances ≡ filled unit_limit (tab h.count (distance h.count h.me (take h.count h.tree)))
     → successors ≡ filled unit_limit (part words successors_at h.count)
     → record {
-      refusal = accepted;
       count = h.count;
       active = active;
       distances = distances;
@@ -144,7 +180,7 @@ pub row_held : (words : List ℕ) → fit_unit_table words ≡ true → {h : Hel
 row_held words e {active = active} {distances = distances} {successors = successors} held found measured read =
     let u = unit_from words in
     let s = fit_unit_shaped words e in
-    let states : active ≡ is_active u = found ∙ ap is_active (ap unit_of held ∙ holds_back u s) in
+    let states : active ≡ is_active u = found ∙ active_held words e held in
     let own : distances ≡ laid_row (tab u.count (own_distance u)) =
     measured
     ∙ ap (λ (h : Held). filled unit_limit (tab h.count (distance h.count h.me (take h.count h.tree)))) held
@@ -155,7 +191,6 @@ row_held words e {active = active} {distances = distances} {successors = success
     ∙ ap (λ (h : Held). filled unit_limit (part words successors_at h.count)) held
     ∙ ap (filled unit_limit) (fit_sets words e) in
     λ i. record {
-      refusal = accepted;
       count = (held i).count;
       active = states i;
       distances = own i;

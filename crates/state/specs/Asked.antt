@@ -1,11 +1,11 @@
 -- Order: the questions of crates/rules/specs/Hub.antt, one by its name or all of a unit at once (proofs/QuestionAnswers.antt).
--- All at once are its state, and for each destination the distance, the feasible distance and the successor set; or a refusal,
--- and zeros. `listed_answer` is read from a row of the table (proofs/ListedAnswers.antt).
-use Rattle.std.specs.Prelude.{ℕ, ◌+◌, false, List, ◌⊎◌, ◌≡◌}
+-- All at once are its state, and for each destination the distance, the feasible distance and the successor set; or a refusal.
+-- `listed_answer` is read from a row of the table (proofs/ListedAnswers.antt).
+use Rattle.std.specs.Prelude.{ℕ, ◌+◌, List, ◌⊎◌, ◌≡◌, Result, Ok, Err}
 use Rattle.std.specs.Prelude.{if◌then◌else◌}
-use Rattle.ground.specs.Limits.{unit_limit}
-use Rattle.ground.specs.Refusal.{accepted}
-use Rattle.ground.specs.Rows.{at, tab, zeros}
+use Rattle.ground.specs.declared.refusals.Refusal.{Refusal}
+use Rattle.ground.specs.declared.refusals.Refusal.TheVariants.{Unfit}
+use Rattle.ground.specs.Rows.{at, tab}
 use Rattle.rules.specs.Hub.{hub_answer, question_refusal, distance_answer, feasible_answer, successors_answer, link_answer, awaits_answer}
 use Rattle.rules.specs.Tables.{costs_at, awaited_at, successors_at, laid_row, unit_from, fit_unit_table}
 use Rattle.rules.specs.Unit.{Unit, is_active, own_distance, successor_set}
@@ -16,7 +16,6 @@ use Rattle.state.specs.declared.questions.Row.{Row}
 abbrev pub row_of : Unit → Row
 row_of u =
     record {
-      refusal = accepted;
       count = u.count;
       active = is_active u;
       distances = laid_row (tab u.count (own_distance u));
@@ -24,19 +23,8 @@ row_of u =
       successors = laid_row (tab u.count (successor_set u));
     }
 
-abbrev pub no_row : (refusal : ℕ) → Row
-no_row refusal =
-    record {
-      refusal = refusal;
-      count = 0;
-      active = false;
-      distances = zeros unit_limit;
-      feasible = zeros unit_limit;
-      successors = zeros unit_limit;
-    }
-
-unfoldable pub row_answer : (words : List ℕ) → Row
-row_answer words = if fit_unit_table words then row_of (unit_from words) else no_row 2
+unfoldable pub row_answer : (words : List ℕ) → Result Row Refusal
+row_answer words = if fit_unit_table words then Ok (row_of (unit_from words)) else Err Unfit
 
 -- The answer to each question about a destination.
 abbrev pub asked_of : Question → (words : List ℕ) (to : ℕ) → ℕ

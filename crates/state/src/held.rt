@@ -157,15 +157,6 @@ pub fn put_unit(table: &mut [u32], unit: Held, successors: [u32; UNITS])
     lay(table, unit, successors);
 }
 
-// Whether a unit within the limit awaits an acknowledgment.
-pub(crate) fn awaits_some(unit: Held) -> bool
-    requires { unit.count ≤ unit_limit }
-    ensures { result ≡ is_active (unit_of unit) }
-{
-    let awaited = unit.awaited;
-    !slices::is_nothing(&awaited[..unit.count])
-}
-
 // Whether the unit awaits an acknowledgment.
 pub fn is_active(unit: Held) -> bool
     ensures { result ≡ (leb unit.count unit_limit && is_active (unit_of unit)) }
@@ -173,5 +164,6 @@ pub fn is_active(unit: Held) -> bool
     if UNITS < unit.count {
         return false;
     }
-    awaits_some(unit)
+    let awaited = unit.awaited;
+    !slices::is_nothing(&awaited[..unit.count])
 }

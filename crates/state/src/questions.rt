@@ -1,21 +1,22 @@
-// Questions to a unit's table. They change nothing: 2 where the table is not fit, 3 for a destination that is no unit, else
-// 100 plus the value, and the largest number for unreachable.
-ghost use Rattle.std.specs.Prelude.{◌⊎◌, ◌≡◌, ◌≤◌};
+// Questions to a unit's table. They change nothing, and are refused where the table is not fit or the destination is no unit. A
+// distance that is unreachable is the largest number.
+ghost use Rattle.std.specs.Prelude.{◌⊎◌, ◌≡◌, ◌≤◌, IfOk};
 ghost use Rattle.ground.specs.Limits.{unit_limit, longest, far};
+ghost use Rattle.ground.specs.Refused.{refused_as, done_of, test_of, reached_of};
 ghost use Rattle.rules.specs.Tables.{laid_row};
 ghost use Rattle.rules.specs.Unit.{fresh_unit};
-ghost use Rattle.state.specs.Asked.{no_row, row_answer, asked_of, Listed, listed_answer};
-ghost use Rattle.rules.specs.Hub.{fresh_table_answer, fresh_table, active_answer, question_refusal, distance_answer, feasible_answer, reachable};
+ghost use Rattle.state.specs.Asked.{row_answer, asked_of, Listed, listed_answer};
+ghost use Rattle.rules.specs.Hub.{fresh_table_answer, fresh_table, active_answer, question_refusal, distance_answer, feasible_answer};
 
 use crate::held::Held;
 use crate::{fit, held};
-use ground::{ANSWERED, COPIES, FAR, UNIT_WORDS, UNITS};
+use ground::refusals::Refusal;
+use ground::{COPIES, FAR, UNIT_WORDS, UNITS};
 use recomputing::heads;
 
-// All that can be asked of a unit at once, for each destination; or a refusal, and zeros.
+// All that can be asked of a unit at once, for each destination.
 #[derive(Clone, Copy)]
 pub struct Row {
-    pub refusal: u32,
     pub count: usize,
     pub active: bool,
     pub distances: [u32; UNITS],
@@ -36,21 +37,18 @@ fn fresh_feasible(count: usize, me: usize) -> [u32; UNITS]
 }
 
 // The fresh unit's table: all links down, trees empty.
-pub fn fresh(count: u32, me: u32, table: &mut [u32]) -> u32
-    ensures answer { result ≡ fresh_table_answer table.old count me }
+pub fn fresh(count: u32, me: u32, table: &mut [u32]) -> Result<(), Refusal>
+    ensures answer { done_of result ≡ fresh_table_answer table.old count me }
     ensures table { table.new ≡ fresh_table table.old count me }
 {
-    if count < 2 {
-        return 1;
-    }
-    if (UNITS as u32) < count {
-        return 1;
+    if count < 2 || (UNITS as u32) < count {
+        return Err(Refusal::UnitCount);
     }
     if table.len() != UNIT_WORDS {
-        return 2;
+        return Err(Refusal::Unfit);
     }
     if count <= me {
-        return 3;
+        return Err(Refusal::NoUnit);
     }
     let unit = Held {
         count: count as usize,
@@ -62,79 +60,58 @@ pub fn fresh(count: u32, me: u32, table: &mut [u32]) -> u32
         copies: [0u32; COPIES],
     };
     held::lay(table, unit, [0u32; UNITS]);
-    ANSWERED
+    Ok(())
 }
 
-pub fn active(table: &[u32]) -> u32
-    ensures { result ≡ active_answer table.now }
+pub fn active(table: &[u32]) -> Result<bool, Refusal>
+    ensures { test_of result ≡ active_answer table.now }
 {
     if !fit::is_fit(table) {
-        return 2;
+        return Err(Refusal::Unfit);
     }
-    if held::awaits_some(held::load(table)) {
-        return 101;
-    }
-    ANSWERED
+    Ok(held::is_active(held::load(table)))
 }
 
-fn question_refusal(table: &[u32], to: u32) -> u32
-    ensures { result ≡ question_refusal table.now to }
+fn check_question(table: &[u32], to: u32) -> Result<(), Refusal>
+    ensures { refused_as result ≡ question_refusal table.now to }
 {
     if !fit::is_fit(table) {
-        return 2;
+        return Err(Refusal::Unfit);
     }
     if table[0] <= to {
-        return 3;
+        return Err(Refusal::NoUnit);
     }
-    0
+    Ok(())
 }
 
-fn reach(distance: u32) -> u32
-    requires { (distance ≤ longest) ⊎ (distance ≡ far) }
-    ensures { result ≡ reachable distance }
+fn distance(table: &[u32], to: u32) -> Result<u32, Refusal>
+    ensures answer { reached_of result ≡ distance_answer table.now to }
+    ensures within { IfOk result (λ value. (value ≤ longest) ⊎ (value ≡ far)) }
 {
-    if distance == FAR {
-        FAR
-    } else {
-        ANSWERED + distance
-    }
-}
-
-fn distance(table: &[u32], to: u32) -> u32
-    ensures { result ≡ distance_answer table.now to }
-{
-    let number = question_refusal(table, to);
-    if number != 0 {
-        return number;
-    }
+    check_question(table, to)?;
     let unit = held::load(table);
     let tree = unit.tree;
     let count = unit.count;
-    reach(heads::distance(&tree[..count], unit.me, count - 1, to as usize))
+    Ok(heads::distance(&tree[..count], unit.me, count - 1, to as usize))
 }
 
-fn feasible(table: &[u32], to: u32) -> u32
-    ensures { result ≡ feasible_answer table.now to }
+fn feasible(table: &[u32], to: u32) -> Result<u32, Refusal>
+    ensures answer { reached_of result ≡ feasible_answer table.now to }
+    ensures within { IfOk result (λ value. (value ≤ longest) ⊎ (value ≡ far)) }
 {
-    let number = question_refusal(table, to);
-    if number != 0 {
-        return number;
-    }
+    check_question(table, to)?;
     let unit = held::load(table);
-    let feasible = unit.feasible;
-    reach(feasible[to as usize])
+    Ok(unit.feasible[to as usize])
 }
 
 // A question whose answer stands in a row of the table as it is.
-fn listed(table: &[u32], row: usize, to: u32) -> u32
+fn listed(table: &[u32], row: usize, to: u32) -> Result<u32, Refusal>
     requires { Listed row }
-    ensures { result ≡ listed_answer table.now row to }
+    ensures answer { reached_of result ≡ listed_answer table.now row to }
+    ensures within { IfOk result (λ value. (value ≤ longest) ⊎ (value ≡ far)) }
 {
-    let number = question_refusal(table, to);
-    if number != 0 {
-        return number;
-    }
-    ANSWERED + table[row + to as usize]
+    check_question(table, to)?;
+    Ok(table[row + to as usize])
 }
 
 // What can be asked of a unit about a destination.
@@ -150,8 +127,9 @@ pub enum Question {
 }
 
 // The answer to a question about a destination.
-pub fn ask(table: &[u32], question: Question, to: u32) -> u32
-    ensures { result ≡ asked_of question table.now to }
+pub fn ask(table: &[u32], question: Question, to: u32) -> Result<u32, Refusal>
+    ensures answer { reached_of result ≡ asked_of question table.now to }
+    ensures within { IfOk result (λ value. (value ≤ longest) ⊎ (value ≡ far)) }
 {
     match question {
         Question::Distance => distance(table, to),
@@ -162,36 +140,21 @@ pub fn ask(table: &[u32], question: Question, to: u32) -> u32
     }
 }
 
-// The answer that is a refusal alone.
-pub fn refused(number: u32) -> Row
-    ensures { result ≡ no_row number }
-{
-    Row {
-        refusal: number,
-        count: 0,
-        active: false,
-        distances: [0u32; UNITS],
-        feasible: [0u32; UNITS],
-        successors: [0u32; UNITS],
-    }
-}
-
 // All questions at once, with one test of the table.
-pub fn row_of(table: &[u32]) -> Row
+pub fn row_of(table: &[u32]) -> Result<Row, Refusal>
     ensures { result ≡ row_answer table.now }
 {
-    if !fit::is_fit(table) {
-        return refused(2);
-    }
-    let unit = held::load(table);
-    let tree = unit.tree;
-    let feasible = unit.feasible;
-    Row {
-        refusal: 0,
-        count: unit.count,
-        active: held::awaits_some(unit),
-        distances: heads::distances(tree, unit.count, unit.me),
-        feasible,
-        successors: held::row(table, held::SUCCESSORS, unit.count),
+    if fit::is_fit(table) {
+        let unit = held::load(table);
+        let feasible = unit.feasible;
+        Ok(Row {
+            count: unit.count,
+            active: held::is_active(unit),
+            distances: heads::distances(unit.tree, unit.count, unit.me),
+            feasible,
+            successors: held::row(table, held::SUCCESSORS, unit.count),
+        })
+    } else {
+        Err(Refusal::Unfit)
     }
 }

@@ -12,26 +12,26 @@ by_question : (table : List ℕ) (to : ℕ) {asked question : Question} → aske
     → asked_of question table to ≡ asked_of asked table to
 by_question table to e = ap (λ (question : Question). asked_of question table to) (sym e)
 
-pub returns-in-Distance : goal.returns-in-Distance
-returns-in-Distance c = c.distance.ensures ∙ by_question c.args.table.now c.args.to c.in-Distance.is
+pub returns-in-Distance-clause-answer : goal.returns-in-Distance-clause-answer
+returns-in-Distance-clause-answer c = c.distance.ensures.answer ∙ by_question c.args.table.now c.args.to c.in-Distance.is
 
-pub returns-in-Feasible : goal.returns-in-Feasible
-returns-in-Feasible c = c.feasible.ensures ∙ by_question c.args.table.now c.args.to c.in-Feasible.is
+pub returns-in-Feasible-clause-answer : goal.returns-in-Feasible-clause-answer
+returns-in-Feasible-clause-answer c = c.feasible.ensures.answer ∙ by_question c.args.table.now c.args.to c.in-Feasible.is
 
-pub returns-in-Successors : goal.returns-in-Successors
-returns-in-Successors c =
-    c.listed.ensures
+pub returns-in-Successors-clause-answer : goal.returns-in-Successors-clause-answer
+returns-in-Successors-clause-answer c =
+    c.listed.ensures.answer
     ∙ successors_listed c.args.table.now c.args.to
     ∙ by_question c.args.table.now c.args.to c.in-Successors.is
 
-pub returns-in-Link : goal.returns-in-Link
-returns-in-Link c =
-    c.listed-in-Link.ensures
+pub returns-in-Link-clause-answer : goal.returns-in-Link-clause-answer
+returns-in-Link-clause-answer c =
+    c.listed-in-Link.ensures.answer
     ∙ link_listed c.args.table.now c.args.to
     ∙ by_question c.args.table.now c.args.to c.in-Link.is
 
-pub returns-in-Awaits : goal.returns-in-Awaits
-returns-in-Awaits c =
-    c.listed-in-Awaits.ensures
+pub returns-in-Awaits-clause-answer : goal.returns-in-Awaits-clause-answer
+returns-in-Awaits-clause-answer c =
+    c.listed-in-Awaits.ensures.answer
     ∙ awaits_listed c.args.table.now c.args.to
     ∙ by_question c.args.table.now c.args.to c.in-Awaits.is

@@ -1,4 +1,4 @@
--- `asking::unit_refusal` meets its contract. The tests are the definition's, in its order.
+-- `asking::check_unit` meets its contract. The tests are the definition's, in its order.
 use native.Mathlib.Omega.{arith}
 use mathlib.Core.Bool.{true, false}
 use mathlib.Core.Path.{◌≡◌, sym, ◌∙◌}
@@ -6,7 +6,7 @@ use borrow.Author.Tests.{lt-ltb, le-ltb}
 use Rattle.ground.specs.Rows.{at}
 use Rattle.rules.specs.Tables.{network_from, fit_tables}
 use Rattle.fitness.proofs.FitTables.{fit_length}
-use Rattle.asking.proofs.unit_refusal.Goals as goal
+use Rattle.asking.proofs.check_unit.Goals as goal
 
 pub returns-then-not-is_fit : goal.returns-then-not-is_fit
 returns-then-not-is_fit c =

@@ -1,9 +1,7 @@
 -- `message::fields::legal_changes` meets its contract. The invariant: every change passed is legal, and `lowest` is the
 -- lowest unit that the next one may have.
-use Prim.Native.Nat.{◌-◌}
 use native.Mathlib.Numerals.{add-one}
 use native.Mathlib.Omega.{arith}
-use mathlib.Core.Bool.{true}
 use mathlib.Core.Path.{◌≡◌, refl, sym, ◌∙◌}
 use borrow.Author.Rules.{rules}
 use lib.ListN.{length}

@@ -1,6 +1,6 @@
 -- The invariant: every change passed is legal, and `lowest` is the
 -- lowest unit that the next one may have.
-use Prim.Native.Nat.{◌≤◌, ◌-◌}
+use Prim.Native.Nat.{◌≤◌}
 use mathlib.Core.Bool.{true}
 use mathlib.Core.Path.{◌≡◌}
 use lib.ListN.{length}

@@ -1,10 +1,9 @@
 -- `message::reader::changes_in` meets its contract. The invariant: the array holds the changes read so far, and zeros.
-use Prim.Native.Nat.{◌<◌, ◌-◌}
+use Prim.Native.Nat.{◌<◌}
 use native.Mathlib.Omega.{arith}
 use mathlib.Core.Path.{◌≡◌, refl}
 use borrow.Author.Rules.{rules}
 use Rattle.ground.specs.Limits.{entry_limit}
-use Rattle.rules.specs.Message.{change_at}
 use Rattle.ground.proofs.Filled.{filled_tab}
 use Rattle.message.proofs.reader.changes_in.Goals as goal
 

@@ -1,5 +1,5 @@
 -- The invariant: the array holds the changes read so far, and zeros.
-use Prim.Native.Nat.{◌≤◌, ◌-◌}
+use Prim.Native.Nat.{◌≤◌}
 use mathlib.Core.Path.{◌≡◌}
 use Rattle.ground.specs.Limits.{entry_limit}
 use Rattle.ground.specs.Rows.{tab, filled}

@@ -1,5 +1,5 @@
 -- The invariant: the array holds the contents, the first i bodies, and zeros.
-use Prim.Native.Nat.{◌+◌, ◌≤◌, ◌-◌}
+use Prim.Native.Nat.{◌≤◌}
 use mathlib.Core.List.{◌++◌}
 use mathlib.Core.Path.{◌≡◌}
 use lib.ListN.{length, take}

@@ -1,14 +1,14 @@
 -- `message::writer::contents` meets its contract. The invariant: the array holds the contents up to unit i, and zeros.
-use Prim.Native.Nat.{ℕ, ◌-◌}
+use Prim.Native.Nat.{ℕ}
 use native.Mathlib.Omega.{arith}
-use mathlib.Core.List.{List, [], ◌∷◌, ◌++◌, map}
+use mathlib.Core.List.{List, ◌++◌, map}
 use mathlib.Core.Path.{◌≡◌, ap, ◌∙◌}
 use borrow.Author.Rules.{rules}
-use lib.ListN.{length, take}
+use lib.ListN.{length}
 use lib.Seq.{take_all}
 use Rattle.ground.specs.Limits.{message_room}
 use Rattle.ground.specs.Rows.{filled}
-use Rattle.rules.specs.Message.{edition, changed_unit}
+use Rattle.rules.specs.Message.{changed_unit}
 use Rattle.message.specs.Writing.{contents_of}
 use Rattle.message.proofs.Writings.{contents_more, low_byte, high_byte}
 use Rattle.message.proofs.writer.contents.Goals as goal

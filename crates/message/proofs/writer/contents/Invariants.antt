@@ -1,5 +1,5 @@
 -- The invariant: the array holds the contents up to unit i, and zeros.
-use Prim.Native.Nat.{ℕ, ◌≤◌, ◌-◌}
+use Prim.Native.Nat.{ℕ, ◌≤◌}
 use mathlib.Core.List.{List, [], ◌∷◌, ◌++◌, map}
 use mathlib.Core.Path.{◌≡◌}
 use lib.ListN.{length, take}

@@ -1,5 +1,5 @@
 -- `message::writer::lay` meets its contract: what is built and then copied is the message.
-use mathlib.Core.Path.{refl, ◌∙◌}
+use mathlib.Core.Path.{refl}
 use Rattle.message.specs.Fields.{fields_of}
 use Rattle.message.proofs.Writings.{laid_by}
 use Rattle.message.proofs.writer.lay.Goals as goal

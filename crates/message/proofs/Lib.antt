@@ -1,4 +1,6 @@
 -- Laws that several proofs of this crate cite.
+pub mod Counts
+pub mod KindNumbers
 pub mod NumberAnswers
 pub mod OneAnswer
 pub mod OneOutput

@@ -1,8 +1,10 @@
 -- The contract of each public function leaves one output (`OneOutput` of ground/specs/Unique.antt).
 use Rattle.ground.specs.Unique.{OneOutput}
 use Rattle.message.specs.contracts as said
+use Rattle.ground.proofs.Answers.{refused_once, answer_once}
 use Rattle.ground.proofs.Unique.{agree}
-use Rattle.message.proofs.OneAnswer.{one_reading, one_writing}
+use Rattle.message.proofs.OneAnswer.{one_reading}
+use Rattle.message.proofs.kind
 use Rattle.message.proofs.numbers
 use Rattle.message.proofs.reader
 use Rattle.message.proofs.writer
@@ -14,18 +16,22 @@ reader_read_once _ _ first second p q i =
 
 pub writer_write_once : OneOutput said.writer.write.ended writer.write.Reads.Learnt
 writer_write_once _ _ first second p q i =
-    (one_writing first.0 second.0 (agree p.0 q.0) i, (_, (_, (_, (_, (agree p.1 q.1 i, _))))))
+    (answer_once first.0 second.0 (agree p.0 q.0) i, (_, (_, (_, (_, (agree p.1.1 q.1.1 i, _))))))
 
--- Refusals' numbers.
+-- The refusal of the count and the room.
 pub writer_room_refusal_once : OneOutput said.writer.room_refusal.ended writer.room_refusal.Reads.Learnt
-writer_room_refusal_once _ _ _ _ p q i = (agree p q i, _)
+writer_room_refusal_once _ _ first second p q i = (refused_once first.0 second.0 (agree p q) i, _)
 
-pub reader_refusal_of_once : OneOutput said.reader.refusal_of.ended reader.refusal_of.Reads.Learnt
-reader_refusal_of_once _ _ _ _ p q i = (agree p q i, _)
-
--- The same with one number: the answer with the fields, the answer with the frame.
+-- The number of entries with the table.
 pub numbers_read_once : OneOutput said.numbers.read.ended numbers.read.Reads.Learnt
-numbers_read_once _ _ _ _ p q i = (agree p.0 q.0 i, (_, (_, (agree p.1 q.1 i, _))))
+numbers_read_once _ _ first second p q i = (answer_once first.0 second.0 (agree p.0 q.0) i, (_, (_, (agree p.1.1 q.1.1 i, _))))
 
-pub numbers_write_once : OneOutput said.numbers.write.ended numbers.write.Reads.Learnt
-numbers_write_once _ _ _ _ p q i = (agree p.0 q.0 i, (_, (_, (_, (_, (agree p.1 q.1 i, _))))))
+-- What a kind is.
+pub kind_Kind_number_once : OneOutput said.kind.Kind.number.ended kind.Kind.number.Reads.Learnt
+kind_Kind_number_once _ _ _ _ p q i = (agree p q i, _)
+
+pub kind_Kind_acknowledges_once : OneOutput said.kind.Kind.acknowledges.ended kind.Kind.acknowledges.Reads.Learnt
+kind_Kind_acknowledges_once _ _ _ _ p q i = (agree p q i, _)
+
+pub kind_Kind_updates_once : OneOutput said.kind.Kind.updates.ended kind.Kind.updates.Reads.Learnt
+kind_Kind_updates_once _ _ _ _ p q i = (agree p q i, _)

@@ -36,14 +36,18 @@ written_reads_back n m frame offset e =
     let tests = unrefused n m (length frame) offset e in
     rw (laid-part n m frame offset e) (rw (tests.count, written_readable n m tests.fields), reads_back m)
 
--- Bytes that the reader accepts: their message is accepted by the writer wherever there is room, and gives the same bytes.
+-- Bytes that the reader accepts are readable, and their count is legal.
+pub accepted_reading : (n : ℕ) (bytes : List ℕ) → read_refusal n bytes ≡ accepted → (legal_count n ≡ true) × (readable n bytes ≡ true)
+accepted_reading n bytes e =
+    let none = otherwise_none (not (legal_count n) gives 1) (not (readable n bytes) gives 9) e in (
+      not-false (legal_count n) (gives_none (not (legal_count n)) 0 none.0),
+      not-false (readable n bytes) (gives_none (not (readable n bytes)) 8 none.1),
+    )
+
+-- Their message is accepted by the writer wherever there is room, and gives the same bytes.
 module _ (n : ℕ) (bytes : List ℕ) (e : read_refusal n bytes ≡ accepted) (frame : List ℕ) (offset : ℕ) where
   tests : (legal_count n ≡ true) × (readable n bytes ≡ true)
-  tests =
-      let none = otherwise_none (not (legal_count n) gives 1) (not (readable n bytes) gives 9) e in (
-        not-false (legal_count n) (gives_none (not (legal_count n)) 0 none.0),
-        not-false (readable n bytes) (gives_none (not (readable n bytes)) 8 none.1),
-      )
+  tests = accepted_reading n bytes e
 
   pub read_writes : no_room (length frame) offset (length (message_of bytes).changes) ≡ false
       → write_refusal n (message_of bytes) (length frame) offset ≡ accepted

@@ -2,32 +2,30 @@
 use Prim.Native.Nat.{ℕ, ◌+◌, ◌-◌, ◌*◌, ◌/◌, ◌%◌, ◌≤◌, ◌<◌}
 use native.Mathlib.Numerals.{add-one}
 use native.Mathlib.Omega.{arith}
-use mathlib.Core.Bool.{Bool, true, false, not}
+use mathlib.Core.Bool.{true, false, not}
 use mathlib.Core.List.{List, [], ◌∷◌, ◌++◌, map, append_assoc}
-use mathlib.Core.Logic.{◌≢◌}
 use mathlib.Core.Path.{◌≡◌, refl, sym, ap, ◌∙◌}
 use mir.Syntax.{w32}
 use mir.Val.{Fits}
-use borrow.Author.Tests.{ne_eqb, le-ltb, lt-ltb, ltb-false, leb-true, not-false}
+use borrow.Author.Tests.{eq-eqb, ne_eqb, le-ltb, lt-ltb, ltb-false, leb-true, not-false}
 use borrow.Rule.Slice.PartMut.{put_mid}
-use lib.Dec.{leb, ltb}
+use lib.Dec.{eqb, leb, ltb}
 use lib.ListN.{length, set, take, drop, length-append, length-map}
 use lib.Seq.{take-suc, length-take-le, drop-drop}
-use Rattle.std.specs.Prelude.{if◌then◌else◌}
 use Rattle.ground.specs.Limits.{legal_count, unit_limit, message_room, entry_base, change_base}
-use Rattle.ground.specs.Refusal.{accepted, ◌gives◌, ◌otherwise◌}
+use Rattle.ground.specs.Refusal.{accepted, answer_base, ◌gives◌, ◌otherwise◌}
+use Rattle.ground.specs.Refused.{number_of}
 use Rattle.ground.specs.Rows.{at, filled}
-use Rattle.ground.specs.Said.{refused_with, said}
+use Rattle.ground.specs.declared.refusals.Refusal.{Refusal}
 use Rattle.rules.specs.Message.{Message, changed_unit, body_bytes, written, no_room, legal_message, write_refusal, message_laid}
+use Rattle.ground.proofs.Answers.{number_some, refusal_first}
 use Rattle.ground.proofs.Filled.{filled_more, take_filled}
 use Rattle.ground.proofs.Parts.{to_end, put_to_end}
-use Rattle.ground.proofs.Refusal.{gives_none, otherwise_none, first_counts, in_a_row}
-use Rattle.ground.proofs.Said.{said_accepted, said_refused}
-use Rattle.ground.proofs.Tests.{both, neither}
+use Rattle.ground.proofs.Refusal.{gives_none, otherwise_none, rest_counts, in_a_row}
+use Rattle.ground.proofs.Tests.{both, neither, if_true, if_false}
 use Rattle.rules.proofs.LegalMessages.{legal_of}
 use Rattle.rules.proofs.Written.{length_bodies, written-length}
-use Rattle.message.specs.Writing.{writing_said, length_value, frame_after, Fitting, room_refusal, laid_at_start}
-use Rattle.message.specs.declared.writer.Written.TheVariants.{Length, Refused}
+use Rattle.message.specs.Writing.{write_answer, frame_after, Fitting, room_refusal, laid_at_start}
 
 -- The room, counted in fours.
 pub past_the_end : (places offset entries : ℕ) → places < offset → no_room places offset entries ≡ true
@@ -42,18 +40,17 @@ long_enough places offset entries h long =
     rw (le-ltb places offset h) (le-ltb (places - offset) (4 + 4 * entries) (omega arith))
 
 -- The count and the room are looked at first, and then the fields decide.
-module _ (n : ℕ) (m : Message) (places offset : ℕ) {number : ℕ} (found : number ≡ room_refusal n (length m.changes) places offset) where
-  in_order : write_refusal n m places offset ≡ (number otherwise not (legal_message n m) gives 9)
-  in_order =
-      in_a_row (not (legal_count n) gives 1) (no_room places offset (length m.changes) gives 7) (not (legal_message n m) gives 9)
-      ∙ ap (λ (first : ℕ). first otherwise not (legal_message n m) gives 9) (sym found)
+module _ (n : ℕ) (m : Message) (places offset : ℕ) where
+  in_order : write_refusal n m places offset ≡ (room_refusal n (length m.changes) places offset otherwise not (legal_message n m) gives 9)
+  in_order = in_a_row (not (legal_count n) gives 1) (no_room places offset (length m.changes) gives 7) (not (legal_message n m) gives 9)
 
-  pub by_room : number ≢ accepted → number ≡ write_refusal n m places offset
-  by_room some = sym (in_order ∙ first_counts number (not (legal_message n m) gives 9) some)
+  pub by_room : (refusal : Refusal) → number_of refusal ≡ room_refusal n (length m.changes) places offset
+      → number_of refusal ≡ write_refusal n m places offset
+  by_room refusal e = refusal_first refusal _ _ e ∙ sym in_order
 
-  pub by_fields : number ≡ accepted → (test : Bool) → test ≡ legal_message n m → write_refusal n m places offset ≡ (if test then 0 else 9)
-  by_fields none true t = in_order ∙ rw (none, ← t)
-  by_fields none false t = in_order ∙ rw (none, ← t)
+  pub by_fields : accepted ≡ room_refusal n (length m.changes) places offset
+      → write_refusal n m places offset ≡ (not (legal_message n m) gives 9)
+  by_fields none = in_order ∙ rest_counts _ _ (sym none)
 
 -- One more element of a list, mapped: what a turn of the loop over the contents adds.
 map_snoc : (f : ℕ → ℕ) (xs : List ℕ) (x : ℕ) → map f (xs ++ (x ∷ [])) ≡ map f xs ++ (f x ∷ [])
@@ -178,27 +175,23 @@ unfolding laid_at_start
 laid_in_frame m frame offset =
     rw (put_to_end frame offset, to_end frame offset, drop-drop) (sym (append_assoc (take offset frame) (written m) _))
 
--- The answer and the frame, by the refusal's number.
+-- The answer and the frame.
 module _ (n : ℕ) (m : Message) (frame : List ℕ) (offset : ℕ) where
-  pub refused_writing : (number : ℕ) → number ≡ write_refusal n m (length frame) offset → number ≢ accepted
-      → (writing_said (Refused number) ≡ said (write_refusal n m (length frame) offset) (length_value m)) × (frame ≡ frame_after n m frame offset)
-  unfolding frame_after
-  refused_writing number e some =
-      (ap refused_with e ∙ sym (said_refused _ _ (λ none. some (e ∙ none))), rw (← e, ne_eqb number accepted some))
+  pub refused_writing : (refusal : Refusal) → number_of refusal ≡ write_refusal n m (length frame) offset
+      → (number_of refusal ≡ write_answer n m (length frame) offset) × (frame ≡ frame_after n m frame offset)
+  unfolding write_answer frame_after
+  refused_writing refusal e =
+      let some : eqb (write_refusal n m (length frame) offset) accepted ≡ false = ne_eqb _ accepted (λ none. number_some refusal (e ∙ none)) in
+      (e ∙ sym (if_false _ _ _ some), sym (if_false _ _ _ some))
 
-  pub accepted_writing : (after : List ℕ) → write_refusal n m (length frame) offset ≡ accepted → after ≡ message_laid m frame offset
-      → (writing_said (Length (4 + 4 * length m.changes)) ≡ said (write_refusal n m (length frame) offset) (length_value m))
-      × (after ≡ frame_after n m frame offset)
-  unfolding frame_after
-  accepted_writing after e laid = (sym (said_accepted _ _ e), rw e laid)
-
-  -- The same from the number that was found, and from the part of the frame that was laid.
-  module _ {number : ℕ} (found : number ≡ write_refusal n m (length frame) offset) (none : number ≡ accepted) where
+  module _ (none : accepted ≡ write_refusal n m (length frame) offset) where
     pub writable_by : Writable m (length frame) offset
-    writable_by = writable n m (length frame) offset (sym found ∙ none)
+    writable_by = writable n m (length frame) offset (sym none)
 
     pub laid_writing : {part : List ℕ} → part ≡ laid_at_start m (take (length frame - offset) (drop offset frame))
-        → (writing_said (Length (4 + 4 * length m.changes)) ≡ said (write_refusal n m (length frame) offset) (length_value m))
+        → (answer_base + (4 + 4 * length m.changes) ≡ write_answer n m (length frame) offset)
         × (put_mid offset (length frame - offset) frame part ≡ frame_after n m frame offset)
+    unfolding write_answer frame_after
     laid_writing e =
-        accepted_writing _ (sym found ∙ none) (ap (put_mid offset (length frame - offset) frame) e ∙ laid_in_frame m frame offset)
+        let yes : eqb (write_refusal n m (length frame) offset) accepted ≡ true = eq-eqb _ accepted (sym none) in
+        (sym (if_true _ _ _ yes), ap (put_mid offset (length frame - offset) frame) e ∙ laid_in_frame m frame offset ∙ sym (if_true _ _ _ yes))

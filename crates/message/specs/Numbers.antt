@@ -1,17 +1,10 @@
--- Rule: what the reader and the writer answer as one number, and the fields of a message in a lent table.
+-- Rule: what the reader answers where it lays the fields of a message into a lent table, 100 plus the number of entries, and the table then.
 use Rattle.std.specs.Prelude.{ℕ, ◌+◌, not, List, ◌∷◌, ◌++◌, eqb, ltb, length, drop}
 use Rattle.std.specs.Prelude.{if◌then◌else◌}
 use Rattle.ground.specs.Limits.{entry_limit, legal_count}
 use Rattle.ground.specs.Refusal.{accepted, answer_base, ◌gives◌, ◌otherwise◌}
 use Rattle.ground.specs.Rows.{filled}
 use Rattle.rules.specs.Message.{Message, message_of, readable}
-use Rattle.message.specs.declared.writer.Written.{Written}
-use Rattle.message.specs.declared.writer.Written.TheVariants.{Length, Refused}
-
--- The number for each case of the writer's answer: 100 plus the bytes used. The reader answers 100 plus the entries.
-abbrev pub write_answer : Written → ℕ
-write_answer (Length bytes) = answer_base + bytes
-write_answer (Refused number) = number
 
 -- The places that the fields of a message take: kind, sender, number of entries, and then the changes.
 abbrev pub leading : ℕ

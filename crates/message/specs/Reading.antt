@@ -1,19 +1,21 @@
 -- Rule: what the reader answers: "kind, sender and entry count, or refusal; the entries' array beside it".
 -- Order: `is_framed`, `Framed`: which part of the layout is looked at first (proofs/Readings.antt).
-use Rattle.std.specs.Prelude.{ℕ, ◌+◌, ◌*◌, ◌≤◌, Bool, true, ◌&&◌, List, [], ◌∷◌, ◌≡◌, eqb, length}
+use Rattle.std.specs.Prelude.{ℕ, ◌+◌, ◌*◌, ◌≤◌, Bool, true, ◌&&◌, List, [], ◌∷◌, Result, Ok, Err, ◌≡◌, eqb, length}
 use Rattle.std.specs.Prelude.{if◌then◌else◌}
 use Rattle.ground.specs.Limits.{entry_limit, unit_limit}
 use Rattle.ground.specs.Refusal.{accepted}
+use Rattle.ground.specs.Refused.{number_of}
 use Rattle.ground.specs.Rows.{at, zeros, filled}
 use Rattle.ground.specs.Said.{Said, accepted_with, refused_with}
 use Rattle.rules.specs.Message.{Message, edition, written_length, message_of, read_refusal}
-use Rattle.message.specs.declared.reader.Answer.{Answer}
-use Rattle.message.specs.declared.reader.Answer.TheVariants.{Message as Accepted, Refused}
+use Rattle.ground.specs.declared.refusals.Refusal.{Refusal}
+use Rattle.message.specs.Kind.{kind_number}
+use Rattle.message.specs.declared.reader.Header.{Header}
 
 -- Document 01's number and values for each case of the reader's answer.
-abbrev pub reading_said : Answer → Said
-reading_said (Accepted kind sender entries) = accepted_with (kind ∷ sender ∷ entries ∷ [])
-reading_said (Refused number) = refused_with number
+abbrev pub reading_said : Result Header Refusal → Said
+reading_said (Ok header) = accepted_with (kind_number header.kind ∷ header.sender ∷ header.entries ∷ [])
+reading_said (Err refusal) = refused_with (number_of refusal)
 
 -- "kind, sender and entry count": the values of a message.
 abbrev pub message_values : Message → List ℕ

@@ -1,30 +1,17 @@
 -- Rule: what the writer answers, "its length" or a refusal, and what it leaves in the frame.
 -- Order: `room_refusal`, `contents_of`, `laid_at_start`, `Fitting`: what is looked at first, and how the bytes are stored
 -- (proofs/Writings.antt).
-use Rattle.std.specs.Prelude.{ℕ, ◌≤◌, ◌<◌, not, List, [], ◌∷◌, ◌++◌, map, eqb, length, drop}
+use Rattle.std.specs.Prelude.{ℕ, ◌+◌, ◌≤◌, ◌<◌, not, List, ◌∷◌, ◌++◌, map, eqb, length, drop}
 use Rattle.std.specs.Prelude.{if◌then◌else◌}
 use Rattle.ground.specs.Limits.{entry_limit, legal_count}
-use Rattle.ground.specs.Refusal.{accepted, ◌gives◌, ◌otherwise◌}
-use Rattle.ground.specs.Said.{Said, accepted_with, refused_with}
+use Rattle.ground.specs.Refusal.{accepted, answer_base, ◌gives◌, ◌otherwise◌}
 use Rattle.rules.specs.Message.{Message, edition, changed_unit, written, written_length, no_room, write_refusal, message_laid}
-use Rattle.message.specs.declared.writer.Written.{Written}
-use Rattle.message.specs.declared.writer.Written.TheVariants.{Length, Refused}
 
--- Document 01's number and values for each case of the writer's answer.
-abbrev pub writing_said : Written → Said
-writing_said (Length bytes) = accepted_with (bytes ∷ [])
-writing_said (Refused number) = refused_with number
-
--- "answers its length": the value of a message that is written.
-abbrev pub length_value : Message → List ℕ
-length_value m = written_length (length m.changes) ∷ []
-
--- The answer itself, by the refusal and the length: the exported writer's number is stated of it.
-abbrev pub answer_with : (refusal bytes : ℕ) → Written
-answer_with refusal bytes = if eqb refusal accepted then Length bytes else Refused refusal
-
-unfoldable pub writing_of : (n : ℕ) → Message → (places offset : ℕ) → Written
-writing_of n m places offset = answer_with (write_refusal n m places offset) (written_length (length m.changes))
+-- "answers its length": 100 plus it, or the refusal's number.
+unfoldable pub write_answer : (n : ℕ) → Message → (places offset : ℕ) → ℕ
+write_answer n m places offset =
+    if eqb (write_refusal n m places offset) accepted then answer_base + written_length (length m.changes)
+    else write_refusal n m places offset
 
 -- "A refusal returns its number alone and changes nothing."
 unfoldable pub frame_after : (n : ℕ) → Message → (frame : List ℕ) (offset : ℕ) → List ℕ

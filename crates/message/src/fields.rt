@@ -1,9 +1,28 @@
 // Whether the fields of a message are legal, for the reader and the writer alike.
-ghost use Rattle.std.specs.Prelude.{◌≡◌};
+ghost use Rattle.std.specs.Prelude.{◌≡◌, not};
+ghost use Rattle.ground.specs.Limits.{legal_count};
+ghost use Rattle.ground.specs.Refusal.{◌gives◌};
+ghost use Rattle.ground.specs.Refused.{refused_as};
 ghost use Rattle.rules.specs.Message.{legal_body, legal_changes, legal_message};
 ghost use Rattle.message.specs.Fields.{legal_from, fields_of};
+ghost use Rattle.message.specs.Kind.{kind_number};
 
-use ground::{CHANGE_BASE, ENTRY_BASE, HIGHEST_COST, REMOVED};
+use crate::kind::Kind;
+use ground::refusals::Refusal;
+use ground::{CHANGE_BASE, ENTRY_BASE, HIGHEST_COST, REMOVED, UNITS};
+
+// The count is not one that a network has.
+pub(crate) fn check_count(count: u32) -> Result<(), Refusal>
+    ensures { refused_as result ≡ (not (legal_count count) gives 1) }
+{
+    if count < 2 {
+        return Err(Refusal::UnitCount);
+    }
+    if (UNITS as u32) < count {
+        return Err(Refusal::UnitCount);
+    }
+    Ok(())
+}
 
 // A body sets a head and a cost for its unit, or removes its entry.
 fn legal_body(count: u32, unit: u32, body: u32) -> bool
@@ -58,25 +77,17 @@ fn legal_changes(count: u32, sender: u32, changes: &[u32]) -> bool
 }
 
 // The fields are those of a legal message of a network of `count` units.
-pub(crate) fn legal_fields(count: u32, kind: u32, sender: u32, changes: &[u32]) -> bool
-    ensures { result ≡ legal_message count (fields_of kind sender changes.now) }
+pub(crate) fn legal_fields(count: u32, kind: Kind, sender: u32, changes: &[u32]) -> bool
+    ensures { result ≡ legal_message count (fields_of (kind_number kind) sender changes.now) }
 {
     if count <= sender {
-        return false;
-    }
-    if kind < 1 {
-        return false;
-    }
-    if 3 < kind {
         return false;
     }
     if (count as usize) <= changes.len() {
         return false;
     }
-    if kind < 2 {
-        if changes.len() != 0 {
-            return false;
-        }
+    if !kind.updates() && changes.len() != 0 {
+        return false;
     }
     legal_changes(count, sender, changes)
 }

@@ -9,10 +9,11 @@
 //
 // `fields` tests what both directions share, whether the fields are those of a legal message. `reader` takes bytes apart
 // and then asks `fields`; `writer` asks `fields` and then puts the bytes together. Neither keeps anything: a refusal leaves
-// the caller's frame as it came. `numbers` has the two with one number as the answer, as the C border gives it.
+// the caller's frame as it came. `numbers` has the reader with the fields in a lent table, as the C border gives them.
 #![tactic(auto)]
 
 mod fields;
+pub mod kind;
 pub mod numbers;
 pub mod reader;
 pub mod writer;

@@ -1,52 +1,40 @@
 // The reader: bytes to one message.
-ghost use Rattle.std.specs.Prelude.{◌≡◌, ◌+◌, ◌*◌, ◌<◌, length};
+ghost use Rattle.std.specs.Prelude.{◌≡◌, ◌+◌, ◌*◌, ◌<◌, not, length};
 ghost use Rattle.ground.specs.Limits.{entry_limit, unit_limit};
-ghost use Rattle.ground.specs.Rows.{tab, zeros, filled};
+ghost use Rattle.ground.specs.Refusal.{◌gives◌};
+ghost use Rattle.ground.specs.Refused.{number_of};
+ghost use Rattle.ground.specs.Rows.{at, tab, zeros, filled};
 ghost use Rattle.ground.specs.Said.{refused_with, said};
-ghost use Rattle.rules.specs.Message.{change_at, message_of, read_refusal};
+ghost use Rattle.rules.specs.Message.{change_at, message_of, legal_message, read_refusal};
+ghost use Rattle.message.specs.Fields.{fields_of};
 ghost use Rattle.message.specs.Reading.{reading_said, message_values, changes_read, is_framed, Framed};
 
 use crate::fields;
-use ground::{CHANGE_BASE, ENTRIES, ENTRY_BASE, UNITS};
+use crate::kind::Kind;
+use ground::refusals::Refusal;
+use ground::{CHANGE_BASE, ENTRIES, ENTRY_BASE};
 
-// What the reader answers: the message's kind, sender and number of entries, or the refusal's number.
+// What stands before a message's entries, and how many these are.
 #[derive(Clone, Copy)]
-pub enum Answer {
-    Message {
-        kind: u32,
-        sender: u32,
-        entries: usize,
-    },
-    Refused(u32),
+pub struct Header {
+    pub kind: Kind,
+    pub sender: u32,
+    pub entries: usize,
 }
 
 // The answer with the message's changes beside it, as one number each; zeros after the last, and in a refusal.
 #[derive(Clone, Copy)]
 pub struct Reading {
-    pub answer: Answer,
+    pub answer: Result<Header, Refusal>,
     pub changes: [u32; ENTRIES],
 }
 
-// The refusal's number of an answer, or 0: what a caller passes on where the answer is no message.
-pub fn refusal_of(answer: Answer) -> u32
-    ensures { result ≡ (reading_said answer).number }
-{
-    match answer {
-        Answer::Message {
-            kind: _,
-            sender: _,
-            entries: _,
-        } => 0,
-        Answer::Refused(number) => number,
-    }
-}
-
-fn refused(number: u32) -> Reading
-    ensures answer { reading_said result.answer ≡ refused_with number }
+fn refused(refusal: Refusal) -> Reading
+    ensures answer { reading_said result.answer ≡ refused_with (number_of refusal) }
     ensures changes { result.changes ≡ zeros entry_limit }
 {
     Reading {
-        answer: Answer::Refused(number),
+        answer: Err(refusal),
         changes: [0u32; ENTRIES],
     }
 }
@@ -96,7 +84,24 @@ fn changes_in(bytes: &[u8], entries: usize) -> [u32; ENTRIES]
     changes
 }
 
-// The fields of framed bytes, if they are legal.
+// What stands before the changes of framed bytes, if all fields are legal.
+fn header_of(count: u32, bytes: &[u8], changes: &[u32]) -> Result<Header, Refusal>
+    requires { Framed count bytes.now }
+    ensures { reading_said result ≡ said (not (legal_message count (fields_of (at bytes.now 2) (at bytes.now 1) changes.now)) gives 9) (message_values (fields_of (at bytes.now 2) (at bytes.now 1) changes.now)) }
+{
+    let kind = Kind::try_from(wide(bytes[2]))?;
+    let sender = wide(bytes[1]);
+    if !fields::legal_fields(count, kind, sender, changes) {
+        return Err(Refusal::Message);
+    }
+    Ok(Header {
+        kind,
+        sender,
+        entries: changes.len(),
+    })
+}
+
+// The message of framed bytes.
 fn read_framed(count: u32, bytes: &[u8]) -> Reading
     requires { Framed count bytes.now }
     ensures answer { reading_said result.answer ≡ said (read_refusal count bytes.now) (message_values (message_of bytes.now)) }
@@ -104,21 +109,13 @@ fn read_framed(count: u32, bytes: &[u8]) -> Reading
 {
     let entries = wide(bytes[3]) as usize;
     if (count as usize) <= entries {
-        return refused(9);
+        return refused(Refusal::Message);
     }
-    let kind = wide(bytes[2]);
-    let sender = wide(bytes[1]);
     let changes = changes_in(bytes, entries);
-    if !fields::legal_fields(count, kind, sender, &changes[..entries]) {
-        return refused(9);
-    }
-    Reading {
-        answer: Answer::Message {
-            kind,
-            sender,
-            entries,
-        },
-        changes,
+    let answer = header_of(count, bytes, &changes[..entries]);
+    match answer {
+        Ok(_) => Reading { answer, changes },
+        Err(refusal) => refused(refusal),
     }
 }
 
@@ -127,14 +124,11 @@ pub fn read(count: u32, bytes: &[u8]) -> Reading
     ensures answer { reading_said result.answer ≡ said (read_refusal count bytes.now) (message_values (message_of bytes.now)) }
     ensures changes { result.changes ≡ changes_read count bytes.now }
 {
-    if count < 2 {
-        return refused(1);
-    }
-    if (UNITS as u32) < count {
-        return refused(1);
+    if let Err(refusal) = fields::check_count(count) {
+        return refused(refusal);
     }
     if !is_framed(bytes) {
-        return refused(9);
+        return refused(Refusal::Message);
     }
     read_framed(count, bytes)
 }

@@ -1,53 +1,48 @@
 // The writer: one message to bytes, laid into the caller's frame from an offset on.
-ghost use Rattle.std.specs.Prelude.{◌≡◌, ◌+◌, ◌*◌, ◌≤◌, length};
+ghost use Rattle.std.specs.Prelude.{◌≡◌, ◌+◌, ◌*◌, ◌≤◌, IfOk, length};
 ghost use Rattle.ground.specs.Limits.{message_room};
+ghost use Rattle.ground.specs.Refused.{refused_as, answer_of};
 ghost use Rattle.ground.specs.Rows.{filled};
-ghost use Rattle.ground.specs.Said.{said};
 ghost use Rattle.rules.specs.Message.{write_refusal, written};
 ghost use Rattle.message.specs.Fields.{fields_of};
-ghost use Rattle.message.specs.Writing.{writing_said, length_value, frame_after, Fitting, room_refusal, contents_of, laid_at_start};
+ghost use Rattle.message.specs.Writing.{write_answer, frame_after, Fitting, room_refusal, contents_of, laid_at_start};
 
 use crate::fields;
-use ground::{CHANGE_BASE, ENTRY_BASE, MESSAGE_ROOM, UNITS};
+use crate::kind::Kind;
+use ground::refusals::Refusal;
+use ground::{CHANGE_BASE, ENTRY_BASE, MESSAGE_ROOM};
 
-// What the writer answers: the message's length, or the refusal's number.
-#[derive(Clone, Copy)]
-pub enum Written {
-    Length(usize),
-    Refused(u32),
-}
-
-// Refusals 1 and 7 of a message of so many entries, or 0. The room is counted in fours, so that no sum can wrap.
-pub fn room_refusal(count: u32, entries: usize, places: usize, offset: usize) -> u32
-    ensures { result ≡ room_refusal count entries places offset }
+// Refusals 1 and 7 of a message of so many entries. The room is counted in fours, so that no sum can wrap.
+pub fn room_refusal(count: u32, entries: usize, places: usize, offset: usize) -> Result<(), Refusal>
+    ensures { refused_as result ≡ room_refusal count entries places offset }
 {
-    if count < 2 {
-        return 1;
-    }
-    if (UNITS as u32) < count {
-        return 1;
-    }
+    fields::check_count(count)?;
     if places < offset {
-        return 7;
+        return Err(Refusal::Room);
     }
     if (places - offset) / 4 <= entries {
-        return 7;
+        return Err(Refusal::Room);
     }
-    0
+    Ok(())
 }
 
-// The lowest refusal that applies, or 0.
-fn refusal(count: u32, kind: u32, sender: u32, changes: &[u32], places: usize, offset: usize) -> u32
-    ensures { result ≡ write_refusal count (fields_of kind sender changes.now) places offset }
+// The lowest refusal that applies.
+fn check(
+    count: u32,
+    kind: u32,
+    sender: u32,
+    changes: &[u32],
+    places: usize,
+    offset: usize,
+) -> Result<(), Refusal>
+    ensures { refused_as result ≡ write_refusal count (fields_of kind sender changes.now) places offset }
 {
-    let number = room_refusal(count, changes.len(), places, offset);
-    if number != 0 {
-        return number;
-    }
+    room_refusal(count, changes.len(), places, offset)?;
+    let kind = Kind::try_from(kind)?;
     if !fields::legal_fields(count, kind, sender, changes) {
-        return 9;
+        return Err(Refusal::Message);
     }
-    0
+    Ok(())
 }
 
 // The table of contents, in an array of zeros.
@@ -91,7 +86,7 @@ fn lay(kind: u32, sender: u32, changes: &[u32], place: &mut [u8])
     place[..bytes].copy_from_slice(&built[..bytes]);
 }
 
-// Lays the message with these fields into the frame from `offset` on; bytes before and after it stay.
+// Lays the message with these fields into the frame from `offset` on and answers its length; bytes before and after it stay.
 pub fn write(
     count: u32,
     kind: u32,
@@ -99,14 +94,12 @@ pub fn write(
     changes: &[u32],
     frame: &mut [u8],
     offset: usize,
-) -> Written
-    ensures answer { writing_said result ≡ said (write_refusal count (fields_of kind sender changes.now) (length frame.old) offset) (length_value (fields_of kind sender changes.now)) }
+) -> Result<usize, Refusal>
+    ensures answer { answer_of result ≡ write_answer count (fields_of kind sender changes.now) (length frame.old) offset }
+    ensures short { IfOk result (λ bytes. bytes ≤ message_room) }
     ensures frame { frame.new ≡ frame_after count (fields_of kind sender changes.now) frame.old offset }
 {
-    let number = refusal(count, kind, sender, changes, frame.len(), offset);
-    if number != 0 {
-        return Written::Refused(number);
-    }
+    check(count, kind, sender, changes, frame.len(), offset)?;
     lay(kind, sender, changes, &mut frame[offset..]);
-    Written::Length(4 + 4 * changes.len())
+    Ok(4 + 4 * changes.len())
 }

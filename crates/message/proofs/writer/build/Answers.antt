@@ -3,6 +3,7 @@ use Prim.Native.Nat.{ℕ, ◌+◌, ◌*◌}
 use native.Mathlib.Omega.{arith}
 use mathlib.Core.List.{List, [], ◌++◌, append-nil}
 use mathlib.Core.Path.{◌≡◌, sym, ap, ◌∙◌}
+use borrow.Author.Rules.{rules}
 use lib.ListN.{length, take, length-map}
 use lib.Seq.{take_all}
 use Rattle.ground.specs.Limits.{message_room}
@@ -34,15 +35,15 @@ contents-built-requires c = c.requires
 pub loop-i-init : goal.loop-i-init
 unfolding body_bytes
 loop-i-init c =
-    c.contents-built.ensures ∙ no_bodies c.args.kind c.args.sender c.args.changes.now
+    (search rules, c.contents-built.ensures ∙ no_bodies c.args.kind c.args.sender c.args.changes.now)
 
 pub loop-i-preserved : goal.loop-i-preserved
 loop-i-preserved c =
     let here = c.loop-i in
     let args = c.args in
-    rw here.invariant (bodies_more message_room (contents_of args.kind args.sender args.changes.now) args.changes.now here.i c.loop-i-test.true _ (contents_long args.kind args.sender args.changes.now here.i) (omega arith))
+    (search rules, rw here.invariant.1 (bodies_more message_room (contents_of args.kind args.sender args.changes.now) args.changes.now here.i c.loop-i-test.true _ (contents_long args.kind args.sender args.changes.now here.i) (omega arith)))
 
 pub returns : goal.returns
 returns c =
     let args = c.args in
-    c.loop-i.invariant ∙ all_bodies args.kind args.sender args.changes.now c.loop-i.i (omega arith)
+    c.loop-i.invariant.1 ∙ all_bodies args.kind args.sender args.changes.now c.loop-i.i (omega arith)

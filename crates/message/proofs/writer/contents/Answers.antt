@@ -3,6 +3,7 @@ use Prim.Native.Nat.{ℕ}
 use native.Mathlib.Omega.{arith}
 use mathlib.Core.List.{List, ◌++◌, map}
 use mathlib.Core.Path.{◌≡◌, ap, ◌∙◌}
+use borrow.Author.Rules.{rules}
 use lib.ListN.{length}
 use lib.Seq.{take_all}
 use Rattle.ground.specs.Limits.{message_room}
@@ -23,14 +24,14 @@ loop-i-init c =
     let sender = low_byte c.args.sender c.requires.small_sender in
     let kind = low_byte c.args.kind c.requires.small_kind in
     let number = low_byte (length c.args.changes.now) (omega arith) in
-    rw (sender, kind, number)
+    (search rules, rw (sender, kind, number))
 
 pub loop-i-preserved : goal.loop-i-preserved
 loop-i-preserved c =
     let here = c.loop-i in
     let args = c.args in
     let byte = high_byte _ (c.type_inv.changes here.i) in
-    rw (here.invariant, byte) (contents_more message_room (front args.kind args.sender args.changes.now) _ here.i c.loop-i-test.true (omega arith))
+    (search rules, rw (here.invariant.1, byte) (contents_more message_room (front args.kind args.sender args.changes.now) _ here.i c.loop-i-test.true (omega arith)))
 
 pub returns : goal.returns
-returns c = c.loop-i.invariant ∙ ap (filled message_room) (all_contents _ _ c.args.changes.now c.loop-i.i (omega arith))
+returns c = c.loop-i.invariant.1 ∙ ap (filled message_room) (all_contents _ _ c.args.changes.now c.loop-i.i (omega arith))

@@ -1,5 +1,5 @@
 -- The invariant: the array holds the contents up to unit i, and zeros.
-use Prim.Native.Nat.{ℕ}
+use Prim.Native.Nat.{ℕ, ◌≤◌}
 use mathlib.Core.List.{List, [], ◌∷◌, ◌++◌, map}
 use mathlib.Core.Path.{◌≡◌}
 use lib.ListN.{length, take}
@@ -16,4 +16,4 @@ abbrev pub contents_up_to : (kind sender : ℕ) (changes : List ℕ) (i : ℕ) �
 contents_up_to kind sender changes i = front kind sender changes ++ map changed_unit (take i changes)
 
 abbrev pub invariant-loop-i : goal.invariant-loop-i
-invariant-loop-i l = l.built ≡ filled message_room (contents_up_to l.kind l.sender l.changes l.i)
+invariant-loop-i l = (l.i ≤ length l.changes) × (l.built ≡ filled message_room (contents_up_to l.kind l.sender l.changes l.i))

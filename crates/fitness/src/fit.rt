@@ -13,7 +13,6 @@ use ground::{
     UNITS,
 };
 use message::reader;
-use message::reader::Answer;
 use queues::queue;
 use state::fit;
 
@@ -28,16 +27,10 @@ fn fit_place(place: &[u8], count: usize, sender: usize) -> bool
     }
     let length = 4 + 4 * entries;
     let read = reader::read(count as u32, &place[..length]);
-    let answer = read.answer;
-    let Answer::Message {
-        kind: _,
-        sender: from,
-        entries: _,
-    } = answer
-    else {
+    let Ok(header) = read.answer else {
         return false;
     };
-    if from as usize != sender {
+    if header.sender as usize != sender {
         return false;
     }
     slices::is_nothing(&place[length..])

@@ -18,7 +18,7 @@ use Rattle.message.proofs.ReaderAnswers.{Taken, taken, unread}
 use Rattle.slices.specs.Slices.{is_nothing}
 use Rattle.fitness.specs.PartsFit.{length_in, fit_place}
 use Rattle.fitness.proofs.fit.fit_place.Goals as goal
-use Rattle.fitness.proofs.fit.fit_place.Goals.{In-Message}
+use Rattle.fitness.proofs.fit.fit_place.Goals.{In-Ok}
 
 -- The bytes at the start of a place, which are read.
 abbrev read_of : (place : List ℕ) → List ℕ
@@ -29,16 +29,15 @@ few : (place : List ℕ) → at place 3 ≤ entry_limit → leb (at place 3) ent
 few place low = le-leb (at place 3) entry_limit low
 
 -- The bytes are a message, and what was read is its.
-got : (c : In-Message)
-    → Taken c.args.count (read_of c.args.place.now) c.in-Message.kind c.in-Message.from c.in-Message.entries
-    c.read-read.result.changes
+got : (c : In-Ok)
+    → Taken c.args.count (read_of c.args.place.now) c.in-Ok.header c.read-read.result.changes
 got c =
     let args = c.args in
-    taken args.count (read_of args.place.now) c.read-read.result (count_legal args.count c.requires.0 c.requires.1)
-    (heard_answer_changes c.read-read.ensures) c.in-Message.is
+    taken args.count (read_of args.place.now) c.read-read.result
+    (heard_answer_changes c.read-read.ensures) c.in-Ok.header c.in-Ok.is
 
 -- Its sender is the place's second byte.
-sent : (c : In-Message) → c.in-Message.from ≡ at c.args.place.now 1
+sent : (c : In-Ok) → c.in-Ok.header.sender ≡ at c.args.place.now 1
 unfolding message_of
 sent c =
     let place = c.args.place.now in
@@ -61,25 +60,25 @@ unfolding fit_place
 returns-in_default c =
     let args = c.args in
     let none =
-    unread args.count (read_of args.place.now) c.read-read.result (count_legal args.count c.requires.0 c.requires.1)
-    (heard_answer_changes c.read-read.ensures) c.in_default.is in
+    unread args.count (read_of args.place.now) c.read-read.result (heard_answer_changes c.read-read.ensures)
+    (count_legal args.count c.requires.0 c.requires.1) c.in_default.field-0 c.in_default.is in
     sym (rw (few args.place.now c.if-entries-gt-ENTRIES.false, none))
 
-pub returns-then-from-sender : goal.returns-then-from-sender
+pub returns-then-header-sender : goal.returns-then-header-sender
 unfolding fit_place
-returns-then-from-sender c =
-    let there = (goal.at.returns-then-from-sender c).In-Message in
+returns-then-header-sender c =
+    let there = (goal.at.returns-then-header-sender c).In-Ok in
     let args = c.args in
     sym (rw (
       few args.place.now c.if-entries-gt-ENTRIES.false,
       (got there).legible,
-      ne_eqb (at args.place.now 1) args.sender (λ e. c.if-from-sender.true (sent there ∙ e)),
+      ne_eqb (at args.place.now 1) args.sender (λ e. c.if-header-sender.true (sent there ∙ e)),
     ))
 
 pub returns : goal.returns
 unfolding fit_place
 returns c =
-    let there = (goal.at.returns c).In-Message in
+    let there = (goal.at.returns c).In-Ok in
     let args = c.args in
     let place = args.place.now in
     c.is_nothing.ensures
@@ -87,5 +86,5 @@ returns c =
     ∙ sym (rw (
       few place c.if-entries-gt-ENTRIES.false,
       (got there).legible,
-      eq-eqb (at place 1) args.sender (sym (sent there) ∙ c.if-from-sender.false),
+      eq-eqb (at place 1) args.sender (sym (sent there) ∙ c.if-header-sender.false),
     ))

@@ -22,7 +22,6 @@ use Rattle.queues.specs.Parcels.{has_room, sent_to}
 use Rattle.queues.specs.Queue.{queue_of, with_bytes, popped_of}
 use Rattle.queues.proofs.QueueMessages.{popped_laid}
 use Rattle.fitness.specs.UnitTables.{with_table}
-use Rattle.events.specs.Telling.{used_by}
 use Rattle.events.specs.declared.tell.Told.{Told}
 use Rattle.events.proofs.LaidTables.{table_laid, shaped_after, queue_found, queue_laid}
 use Rattle.events.proofs.MessageRoom.{fits, room_all}
@@ -115,7 +114,7 @@ module _ {n : ℕ} {words bytes : List ℕ} {net : Network} {i : ℕ} {told : To
   told_there = rw t.tabled.counted t.tells
 
   -- Whether its messages find room.
-  pub room_told : has_room bytes n i told.sent (used_by told) ≡ fits net i r
+  pub room_told : has_room bytes n i told.sent told.used ≡ fits net i r
   room_told =
       rw (← t.tabled.queues, ← t.tabled.counted)
       (room_all net t.tabled.shaped i inside r told_there.single told_there.parcels)
@@ -123,7 +122,7 @@ module _ {n : ℕ} {words bytes : List ℕ} {net : Network} {i : ℕ} {told : To
   module _ (room : fits net i r ≡ true) where
     -- The tables once it has happened.
     pub happened : {after left : List ℕ} → after ≡ with_table words i told.table
-        → left ≡ sent_to bytes i told.sent (used_by told) n → Tabled n after left (reacted net i r)
+        → left ≡ sent_to bytes i told.sent told.used n → Tabled n after left (reacted net i r)
     unfolding reacted
     happened e q =
         let s : ShapedNetwork net = t.tabled.shaped in
@@ -135,7 +134,7 @@ module _ {n : ℕ} {words bytes : List ℕ} {net : Network} {i : ℕ} {told : To
               ∙ sym e;
           queues =
               sym (messages_sent net s i inside r told_there.single room told_there.parcels)
-              ∙ ap₂ (λ (bs : List ℕ) (k : ℕ). sent_to bs i told.sent (used_by told) k)
+              ∙ ap₂ (λ (bs : List ℕ) (k : ℕ). sent_to bs i told.sent told.used k)
               t.tabled.queues t.tabled.counted
               ∙ sym q;
           shaped = shaped_reacted net s i inside r told_there.single room told_there.counted told_there.shaped;

@@ -1,5 +1,5 @@
 -- What a unit answers, leaves and sends when a copy of its table is told of an event that it does not refuse.
-use Prim.Native.Nat.{ℕ, ◌+◌, ◌≤◌, ◌<◌, min}
+use Prim.Native.Nat.{ℕ, ◌+◌, ◌-◌, ◌≤◌, ◌<◌, min}
 use native.Mathlib.Omega.{arith}
 use mathlib.Core.Bool.{true}
 use mathlib.Core.List.{List, [], ◌∷◌, ◌++◌}
@@ -9,6 +9,7 @@ use borrow.Author.Tests.{eq-eqb, ne_eqb}
 use lib.Dec.{eqb}
 use lib.ListN.{length, take, drop}
 use lib.Seq.{take_all}
+use Rattle.std.specs.Prelude.{Result, Ok, Err, IfOk}
 use Rattle.ground.specs.Limits.{firmware_room}
 use Rattle.ground.specs.Refusal.{accepted, answer_base}
 use Rattle.ground.specs.Rows.{at, zeros}
@@ -19,6 +20,8 @@ use Rattle.rules.specs.Message.{Message, written_length}
 use Rattle.rules.specs.Tables.{queue_bytes, laid_unit, unit_from}
 use Rattle.rules.specs.Unit.{Unit, fit_unit}
 use Rattle.unit.specs.declared.calls.Call.TheVariants.{Up, Cost, Down, Message as Brought}
+use Rattle.ground.specs.declared.refusals.Refusal.{Refusal}
+use Rattle.ground.proofs.Answers.{number_once, number_below}
 use Rattle.ground.proofs.Each.{each_first}
 use Rattle.ground.proofs.Tests.{less_or_not, if_true, if_false}
 use Rattle.rules.proofs.Laid.{ShapedUnit, unit_reads_back}
@@ -28,7 +31,7 @@ use Rattle.unit.proofs.ReadyCalls.{ready_of}
 use Rattle.steps.proofs.SentMessages.{Reacted, reacted_to}
 use Rattle.queues.specs.Queue.{queue_of}
 use Rattle.fitness.specs.UnitTables.{table_of}
-use Rattle.events.specs.Telling.{told_by, used_by, first_in, none_told, first_told}
+use Rattle.events.specs.Telling.{told_as, told_by, first_in, first_answer, first_told}
 use Rattle.events.specs.declared.tell.Told.{Told}
 use Rattle.queues.proofs.SentParcels.{Single, Parcels, sent_by, outgoing_parcels}
 use Rattle.fitness.proofs.FitTables.{laid_fit}
@@ -49,12 +52,11 @@ single_of n a (m ∷ k ∷ ms) few proper = absurd (omega arith)
 
 -- What a unit of n that is told of an event answers, leaves and sends, where its reaction is r.
 pub record Tells (n : ℕ) (told : Told) (r : Reaction) : Type 0 where
-  pub answer : answer_base ≤ told.answer
   pub table : told.table ≡ laid_unit r.unit
   pub counted : r.unit.count ≡ n
   pub shaped : ShapedUnit r.unit
   pub single : (k : ℕ) → k < n → Single n (sent_by r k)
-  pub parcels : Parcels n (sent_by r) told.sent (used_by told)
+  pub parcels : Parcels n (sent_by r) told.sent told.used
 
 module _ (u : Unit) (s : ShapedUnit u) (fit : fit_unit u ≡ true) (call : HubCall) where
   -- Its table refuses what the unit does.
@@ -63,7 +65,7 @@ module _ (u : Unit) (s : ShapedUnit u) (fit : fit_unit u ≡ true) (call : HubCa
   same_refusal = rw (laid_fit u s fit, unit_reads_back u s)
 
   -- The refusal is what it answers, where there is one.
-  pub told_answer : (told_by (laid_unit u) call).answer
+  pub told_answer : table_answer (laid_unit u) firmware_room call
       ≡ hub_answer (hub_refusal u firmware_room call) (length (outgoing (reaction u (event_of call))))
   unfolding table_answer
   told_answer = rw (same_refusal, unit_reads_back u s)
@@ -81,12 +83,11 @@ module _ (u : Unit) (s : ShapedUnit u) (fit : fit_unit u ≡ true) (call : HubCa
       reacted_to u e s (rw (unit_reads_back u s) at (still_fit (laid_unit u) firmware_room call free)) in
       let single : (k : ℕ) → k < u.count → Single u.count (sent_by r k) =
       λ k h. single_of u.count u.me _ (facts.few k h) (facts.sent k h) in
-      let answer : told.answer ≡ answer_base + length (outgoing r) = told_answer ∙ rw ok in
-      let used : used_by told ≡ length (outgoing r) = omega arith in
+      let answer : table_answer (laid_unit u) firmware_room call ≡ answer_base + length (outgoing r) = told_answer ∙ rw ok in
+      let used : told.used ≡ length (outgoing r) = omega (arith, answer) in
       let sent : told.sent ≡ outgoing r ++ drop (length (outgoing r)) (zeros firmware_room) =
       rw (free, unit_reads_back u s) in
       record {
-        answer = omega arith;
         table = rw (free, unit_reads_back u s);
         counted = facts.counted;
         shaped = facts.shaped;
@@ -97,14 +98,14 @@ module _ (u : Unit) (s : ShapedUnit u) (fit : fit_unit u ≡ true) (call : HubCa
             (drop (length (outgoing r)) (zeros firmware_room)));
       }
 
--- The answer, the copy's new table and the buffer are those of the table.
-pub told_is : (call : HubCall) {table copy : List ℕ} → copy ≡ table → {answer : ℕ} {after sent : List ℕ}
-    → (answer ≡ table_answer copy firmware_room call)
+-- The bytes used, the copy's new table and the buffer are those of the table.
+pub told_is : (call : HubCall) {table copy : List ℕ} → copy ≡ table → {used : ℕ} {after sent : List ℕ}
+    → (answer_base + used ≡ table_answer copy firmware_room call)
     × ((after ≡ table_after copy firmware_room call) × (sent ≡ buffer_after copy (zeros firmware_room) call))
-    → ◌≡◌ {A = Told} (record { answer = answer; table = after; sent = sent }) (told_by table call)
-told_is call e told =
-    (λ i. record { answer = told.0 i; table = told.1.0 i; sent = told.1.1 i })
-    ∙ ap (λ (t : List ℕ). told_by t call) e
+    → ◌≡◌ {A = Told} (record { table = after; sent = sent; used = used }) (told_by table call)
+told_is call {table} {copy} e {used} {after} {sent} told =
+    let is : used ≡ table_answer copy firmware_room call - answer_base = omega (arith, told.0) in
+    (λ i. record { table = told.1.0 i; sent = told.1.1 i; used = is i }) ∙ ap (λ (t : List ℕ). told_by t call) e
 
 -- The first numbers of a list, no more than it has.
 pub take_least : (n : ℕ) (xs : List ℕ) {m : ℕ} → length xs ≡ m → {k : ℕ} → k ≡ min n m → take k xs ≡ take n xs
@@ -117,19 +118,35 @@ take_least n xs {m} long {k} e =
 -- What is told of the first message of a queue that is found as it is loaded.
 module _ (words bytes : List ℕ) (a b : ℕ) {queue : List ℕ} (loaded : queue ≡ queue_of bytes a b) where
   -- There is none.
-  pub none_first : at queue 0 ≡ 0 → {told : Told} → told ≡ none_told → told ≡ first_told words bytes a b
-  unfolding first_told
-  none_first z e =
-      e
-      ∙ sym (if_true (eqb (at (queue_of bytes a b) 0) 0) _ _ (eq-eqb _ 0 (ap (λ (q : List ℕ). at q 0) (sym loaded) ∙ z)))
+  pub none_first : at queue 0 ≡ 0 → 8 ≡ first_answer words bytes a b
+  unfolding first_answer
+  none_first z =
+      sym (if_true (eqb (at (queue_of bytes a b) 0) 0) _ _ (eq-eqb _ 0 (ap (λ (q : List ℕ). at q 0) (sym loaded) ∙ z)))
 
   -- There is one, whose bytes are the first, no more than the queue has.
-  pub some_first : at queue 0 ≢ 0 → length queue ≡ queue_bytes → {long : ℕ} → long ≡ min (written_length (at queue 3)) queue_bytes
-      → {told : Told} → told ≡ told_by (table_of words b) (hub_message a (take long queue)) → told ≡ first_told words bytes a b
-  unfolding first_told
-  some_first d wide {long} n e =
-      e
-      ∙ ap (λ (bs : List ℕ). told_by (table_of words b) (hub_message a bs)) (take_least (written_length (at queue 3)) queue wide n)
-      ∙ ap (λ (q : List ℕ). told_by (table_of words b) (hub_message a (first_in q))) loaded
-      ∙ sym (if_false (eqb (at (queue_of bytes a b) 0) 0) _ _
-      (ne_eqb _ 0 (λ z. d (ap (λ (q : List ℕ). at q 0) loaded ∙ z))))
+  module _ (d : at queue 0 ≢ 0) (wide : length queue ≡ queue_bytes) {long : ℕ} (n : long ≡ min (written_length (at queue 3)) queue_bytes) where
+    first_is : take long queue ≡ first_in (queue_of bytes a b)
+    first_is = take_least (written_length (at queue 3)) queue wide n ∙ ap first_in loaded
+
+    pub some_first : {number : ℕ} → number ≡ table_answer (table_of words b) firmware_room (hub_message a (take long queue))
+        → number ≡ first_answer words bytes a b
+    unfolding first_answer
+    some_first e =
+        e
+        ∙ ap (λ (bs : List ℕ). table_answer (table_of words b) firmware_room (hub_message a bs)) first_is
+        ∙ sym (if_false (eqb (at (queue_of bytes a b) 0) 0) _ _
+        (ne_eqb _ 0 (λ z. d (ap (λ (q : List ℕ). at q 0) loaded ∙ z))))
+
+    pub told_first : (result : Result Told Refusal)
+        → IfOk result (λ told. told ≡ told_by (table_of words b) (hub_message a (take long queue)))
+        → IfOk result (λ told. told ≡ first_told words bytes a b)
+    told_first (Ok told) e = e ∙ ap (λ (bs : List ℕ). told_by (table_of words b) (hub_message a bs)) first_is
+    told_first (Err refusal) e = e
+
+-- No two that are told are of one number and of one table and call.
+pub told_once : (said : ℕ) (told : Told) (a b : Result Told Refusal) → told_as a ≡ said → told_as b ≡ said
+    → IfOk a (λ one. one ≡ told) → IfOk b (λ two. two ≡ told) → a ≡ b
+told_once said told (Ok a) (Ok b) p q x y = ap Ok (x ∙ sym y)
+told_once said told (Ok a) (Err b) p q x y = absurd (omega (arith, number_below b))
+told_once said told (Err a) (Ok b) p q x y = absurd (omega (arith, number_below a))
+told_once said told (Err a) (Err b) p q x y = ap Err (number_once a b (p ∙ sym q))

@@ -9,15 +9,14 @@ use Rattle.rules.specs.Tables.{queue_bytes}
 use Rattle.queues.specs.Parcels.{has_room, sent_to}
 use Rattle.queues.specs.Queue.{queue_of, with_bytes, popped_of}
 use Rattle.fitness.specs.UnitTables.{with_table}
-use Rattle.events.specs.Telling.{used_by}
 use Rattle.events.specs.declared.tell.Told.{Told}
 
 -- Whether what unit i of n sends finds room, and the queues with it.
 abbrev pub finds_room : (bytes : List ℕ) (n i : ℕ) → Told → Bool
-finds_room bytes n i told = has_room bytes n i told.sent (used_by told)
+finds_room bytes n i told = has_room bytes n i told.sent told.used
 
 abbrev pub is_sent : (bytes : List ℕ) (n i : ℕ) → Told → List ℕ
-is_sent bytes n i told = sent_to bytes i told.sent (used_by told) n
+is_sent bytes n i told = sent_to bytes i told.sent told.used n
 
 -- The queues once the first message from a to b is taken out, if asked; once both queues between them are emptied, if asked.
 abbrev pub popped_if : (pops : Bool) (bytes : List ℕ) (a b : ℕ) → List ℕ

@@ -1,28 +1,21 @@
 // An event that a unit was told of takes place where its messages find room: its table and its messages are put where they
-// belong. Refusal 13 leaves both tables as they came.
-ghost use Rattle.std.specs.Prelude.{◌&&◌, ◌≡◌, ◌-◌};
-ghost use Rattle.ground.specs.Refusal.{answer_base};
+// belong. A refusal leaves both tables as they came.
+ghost use Rattle.std.specs.Prelude.{◌&&◌, ◌≡◌};
+ghost use Rattle.ground.specs.Refused.{done_of};
 ghost use Rattle.fitness.specs.UnitTables.{with_table};
 ghost use Rattle.events.specs.Happening.{finds_room, is_sent, popped_if, emptied_if, one_answer, one_words, one_bytes, both_answer, both_words, both_bytes};
 
 use crate::tell::Told;
 use fitness::tables;
-use ground::ANSWERED;
+use ground::refusals::Refusal;
 use queues::{parcels, queue};
-
-// The bytes of the messages that an answer tells of.
-fn used(answer: u32) -> usize
-    ensures { result ≡ answer - answer_base }
-{
-    answer.saturating_sub(ANSWERED) as usize
-}
 
 // Whether what unit i sends finds room.
 fn has_room(queues: &[u8], count: usize, i: u32, told: Told) -> bool
     ensures { result ≡ finds_room queues.now count i told }
 {
     let sent = told.sent;
-    parcels::has_room(queues, count, i as usize, &sent, used(told.answer))
+    parcels::has_room(queues, count, i as usize, &sent, told.used)
 }
 
 // Whether what units a and b send finds room.
@@ -40,7 +33,7 @@ fn happens(words: &mut [u32], queues: &mut [u8], count: usize, i: u32, told: Tol
     let table = told.table;
     tables::put(words, i as usize, table);
     let sent = told.sent;
-    parcels::send(queues, count, i as usize, &sent, used(told.answer));
+    parcels::send(queues, count, i as usize, &sent, told.used);
 }
 
 // The first message of the queue from a to b is taken out of it, if asked.
@@ -69,18 +62,18 @@ pub fn at_one(
     i: u32,
     told: Told,
     pops: bool,
-) -> u32
-    ensures answer { result ≡ one_answer words.old queues.old i told }
+) -> Result<(), Refusal>
+    ensures answer { done_of result ≡ one_answer words.old queues.old i told }
     ensures words { words.new ≡ one_words words.old queues.old i told }
     ensures queues { queues.new ≡ one_bytes words.old queues.old other i told pops }
 {
     let count = tables::count(words);
     if !has_room(queues, count, i, told) {
-        return 13;
+        return Err(Refusal::QueueFull);
     }
     pop_if(queues, other, i, pops);
     happens(words, queues, count, i, told);
-    ANSWERED
+    Ok(())
 }
 
 // An event at each of two units; where the link between them goes down, its queues are emptied first.
@@ -92,17 +85,17 @@ pub fn at_both(
     b: u32,
     two: Told,
     clears: bool,
-) -> u32
-    ensures answer { result ≡ both_answer words.old queues.old a one b two }
+) -> Result<(), Refusal>
+    ensures answer { done_of result ≡ both_answer words.old queues.old a one b two }
     ensures words { words.new ≡ both_words words.old queues.old a one b two }
     ensures queues { queues.new ≡ both_bytes words.old queues.old a one b two clears }
 {
     let count = tables::count(words);
     if !have_room(queues, count, a, one, b, two) {
-        return 13;
+        return Err(Refusal::QueueFull);
     }
     clear_if(queues, a, b, clears);
     happens(words, queues, count, a, one);
     happens(words, queues, count, b, two);
-    ANSWERED
+    Ok(())
 }

@@ -3,4 +3,4 @@ use Rattle.events.proofs.happen.happens.Goals as goal
 
 pub returns : goal.returns
 returns c =
-    record { words = c.put.ensures; queues = rw (c.send.ensures, c.used.ensures) }
+    record { words = c.put.ensures; queues = rw c.send.ensures }

@@ -2,4 +2,4 @@
 use Rattle.events.proofs.happen.has_room.Goals as goal
 
 pub returns : goal.returns
-returns c = rw (c.has_room.ensures, c.used.ensures)
+returns c = rw c.has_room.ensures

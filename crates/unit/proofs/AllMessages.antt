@@ -186,6 +186,12 @@ module _ (h : Held) (tree : List ℕ) (isChanged : Bool) (owed room : ℕ) (all 
           (λ b. omega (arith, joined_skip (1 + message_room) h.count laid bytes_most h.me own_bytes k (omega arith) (omega arith), facts.high))
           (less_or_not k h.me)
 
+      -- All of them are few.
+      pub sent_short : length (joined (tab h.count laid)) ≤ firmware_room
+      sent_short =
+          omega
+          (arith, joined_skip (1 + message_room) h.count laid bytes_most h.me own_bytes h.count (omega (arith, facts.me)) (omega arith), facts.high)
+
       -- Each message can be laid.
       pub sendable_one : (k used : ℕ) → k < h.count → used ≡ length (joined (tab k laid))
           → Sendable h.count h.me k (kind_to k) (list_in (picked (sends k) (eqb k new) whole some)) room used

@@ -5,6 +5,7 @@ use mathlib.Core.List.{List}
 use mathlib.Core.Logic.{◌⊎◌, inl, inr, ◌≢◌}
 use mathlib.Core.Path.{◌≡◌, sym, ap, ◌∙◌}
 use borrow.Author.Tests.{eq-eqb, ne_eqb, not-false}
+use lib.Dec.{eqb}
 use lib.ListN.{length, take}
 use lib.Seq.{get_or-take}
 use Rattle.ground.specs.Limits.{unit_limit}
@@ -25,6 +26,8 @@ use Rattle.ground.proofs.Filled.{take_filled}
 use Rattle.ground.proofs.Refusal.{gives_none, otherwise_none}
 use Rattle.ground.proofs.Tests.{both_of, and_false}
 use Rattle.rules.proofs.Applied.{applied_filled, changes_nothing_filled, length_applied}
+use Rattle.message.specs.Kind.{kind_number}
+use Rattle.message.specs.declared.reader.Header.{Header}
 use Rattle.message.proofs.ReaderAnswers.{Taken}
 use Rattle.unit.proofs.HeldFit.{held_shaped}
 
@@ -89,10 +92,10 @@ module _
     (bytes : List ℕ)
     (p : FitHeld h)
     (below : from < h.count)
-    {kind sender entries : ℕ}
+    (header : Header)
     {changes : List ℕ}
-    (t : Taken h.count bytes kind sender entries changes)
-    (same : sender ≡ from)
+    (t : Taken h.count bytes header changes)
+    (same : header.sender ≡ from)
   where
     abbrev m : Message
     m = message_of bytes
@@ -113,40 +116,42 @@ module _
     waited = ap (at u.awaited) sent-by ∙ get_or-take h.count h.awaited from 0 below
 
     -- Refusal 10: an acknowledgment that is not awaited.
-    pub refused_wait : kind % 2 ≡ 1 → at h.awaited from ≡ 0 → 10 ≡ content_refusal u from bytes
+    pub refused_wait : true ≡ eqb (kind_number header.kind % 2) 1 → at h.awaited from ≡ 0 → 10 ≡ content_refusal u from bytes
     refused_wait odd none =
         refusal_ten u m
-        (both_of (holds_acknowledgment m) _ (eq-eqb _ _ (ap (λ (k : ℕ). k % 2) (sym t.of_kind) ∙ odd))
+        (both_of (holds_acknowledgment m) _ (ap (λ (k : ℕ). eqb (k % 2) 1) (sym t.of_kind) ∙ sym odd)
         (rw (eq-eqb (at u.awaited m.sender) 0 (waited ∙ none))))
         ∙ content
 
     -- Else the acknowledgment, if there is one, is awaited.
     abbrev pub Awaited : Type 0
-    Awaited = ((kind % 2 ≡ 1) × (at h.awaited from ≢ 0)) ⊎ (kind % 2 ≢ 1)
+    Awaited = (at h.awaited from ≢ 0) ⊎ (false ≡ eqb (kind_number header.kind % 2) 1)
 
     waited_for : Awaited → unawaited u m ≡ false
     waited_for (inl w) =
         and_false (holds_acknowledgment m) _
-        (rw (ne_eqb (at u.awaited m.sender) 0 (λ z. w.1 (sym waited ∙ z))))
-    waited_for (inr d) = rw (ne_eqb (m.kind % 2) 1 (λ e. d (ap (λ (k : ℕ). k % 2) t.of_kind ∙ e)))
+        (rw (ne_eqb (at u.awaited m.sender) 0 (λ z. w (sym waited ∙ z))))
+    waited_for (inr even) =
+        let none : holds_acknowledgment m ≡ false = ap (λ (k : ℕ). eqb (k % 2) 1) (sym t.of_kind) ∙ sym even in
+        rw none
 
     module _ (w : Awaited) {copy : List ℕ} (e : copy ≡ laid_row (copy_of u.copies from)) where
       laid : copy ≡ laid_row copied
       laid = e ∙ ap (λ (k : ℕ). laid_row (copy_of u.copies k)) (sym sent-by)
 
-      idle_by : changes_nothing copy (take entries changes) ≡ idle u m
+      idle_by : changes_nothing copy (take header.entries changes) ≡ idle u m
       idle_by =
-          ap (λ (row : List ℕ). changes_nothing row (take entries changes)) laid
+          ap (λ (row : List ℕ). changes_nothing row (take header.entries changes)) laid
           ∙ ap (changes_nothing (laid_row copied)) t.part
           ∙ changes_nothing_filled unit_limit copied m.changes
 
       -- Refusal 11: a change that changes nothing.
-      pub refused_idle : {found : Bool} → found ≡ changes_nothing copy (take entries changes) → found ≡ true
+      pub refused_idle : {found : Bool} → found ≡ changes_nothing copy (take header.entries changes) → found ≡ true
           → 11 ≡ content_refusal u from bytes
       refused_idle f y = refusal_eleven u m (waited_for w) (sym idle_by ∙ sym f ∙ y) ∙ content
 
-      module _ {found : Bool} (f : found ≡ changes_nothing copy (take entries changes)) (no : found ≡ false)
-          {after : List ℕ} (g : after ≡ applied copy (take entries changes)) where
+      module _ {found : Bool} (f : found ≡ changes_nothing copy (take header.entries changes)) (no : found ≡ false)
+          {after : List ℕ} (g : after ≡ applied copy (take header.entries changes)) where
         not_idle : idle u m ≡ false
         not_idle = sym idle_by ∙ sym f ∙ no
 
@@ -156,7 +161,7 @@ module _
         grown_row : take h.count after ≡ applied copied m.changes
         grown_row =
             ap (take h.count)
-            (g ∙ ap (λ (row : List ℕ). applied row (take entries changes)) laid ∙ ap (applied (laid_row copied)) t.part)
+            (g ∙ ap (λ (row : List ℕ). applied row (take header.entries changes)) laid ∙ ap (applied (laid_row copied)) t.part)
             ∙ applied_laid h.count copied m.changes copied_length (rw t.part at t.units)
 
         -- The row that was changed has a place for each unit.

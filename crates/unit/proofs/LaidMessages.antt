@@ -12,26 +12,27 @@ use borrow.Author.Tests.{eq-eqb, ne_eqb, le-ltb}
 use lib.Dec.{eqb}
 use lib.ListN.{length, set, take, drop, length-append, length-set, take-append-drop}
 use lib.Seq.{take-suc-set, drop-set-lt, append_snoc, take-append_seam, drop-append-add, drop-drop}
-use Rattle.std.specs.Prelude.{if◌then◌else◌}
+use Rattle.std.specs.Prelude.{Option, Some, Result, Ok, Err, if◌then◌else◌}
 use Rattle.ground.specs.Limits.{unit_limit, entry_limit, message_room}
-use Rattle.ground.specs.Refusal.{accepted}
+use Rattle.ground.specs.Refusal.{accepted, answer_base}
 use Rattle.ground.specs.Rows.{at, tab, zeros, filled, joined, laid_after}
-use Rattle.ground.specs.Said.{said}
+use Rattle.ground.specs.Refused.{answer_of}
+use Rattle.ground.specs.declared.refusals.Refusal.{Refusal}
 use Rattle.rules.specs.Hub.{outgoing_to}
 use Rattle.rules.specs.Message.{acknowledgment, update, change, body_for, differences, written, written_length, write_refusal}
 use Rattle.message.specs.Fields.{fields_of}
-use Rattle.message.specs.Writing.{writing_said, length_value, frame_after}
-use Rattle.message.specs.declared.writer.Written.{Written}
-use Rattle.message.specs.declared.writer.Written.TheVariants.{Length, Refused}
+use Rattle.message.specs.Kind.{kind_number}
+use Rattle.message.specs.Writing.{write_answer, frame_after}
+use Rattle.message.specs.declared.kind.Kind.{Kind}
+use Rattle.message.specs.declared.kind.Kind.TheVariants.{Acknowledgment, Update, Both}
+use Rattle.ground.proofs.Answers.{number_below}
 use Rattle.ground.proofs.Filled.{filled_more, take_filled}
 use Rattle.ground.proofs.Joined.{joined_more}
 use Rattle.ground.proofs.Limits.{count_legal}
-use Rattle.ground.proofs.Said.{said_accepted}
 use Rattle.rules.proofs.Differences.{differences_most, differences_same, differences_other}
 use Rattle.rules.proofs.LegalMessages.{legal_of}
 use Rattle.rules.proofs.Written.{written-length}
-use Rattle.message.proofs.OneAnswer.{one_writing}
-use Rattle.unit.specs.Sending.{listed, kind_for, bytes_to, Sendable}
+use Rattle.unit.specs.Sending.{listed, kind_for, number_for, bytes_to, Sendable}
 use Rattle.unit.specs.declared.send.Changes.{Changes}
 
 -- The differences of the units below j, in an array with their number.
@@ -68,12 +69,17 @@ laid_none k kind sender changes buffer used e =
 pub numbered_long : (k : ℕ) (buffer : List ℕ) (used : ℕ) {places : ℕ} → places ≡ length (set buffer used (k % 256)) → places ≡ length buffer
 numbered_long k buffer used e = e ∙ length-set buffer used (k % 256)
 
--- An answer that is a length is that length, and no refusal.
-pub bytes_by : {r : Written} {n bytes : ℕ} → r ≡ Length n → r ≡ Length bytes → bytes ≡ n
-bytes_by e f = cc
+-- The number of a kind that is there: it is not that of none.
+kind_there : (kind : Kind) → kind_number kind ≢ 0
+kind_there Acknowledgment e = absurd (omega arith)
+kind_there Update e = absurd (omega arith)
+kind_there Both e = absurd (omega arith)
 
-pub not_refused : {r : Written} {n number : ℕ} → r ≡ Length n → r ≡ Refused number → ⊥
-not_refused e f = let z : ◌≡◌ {A = ℕ} 0 1 = cc in absurd (omega arith)
+pub number_there : {given : Option Kind} {kind : Kind} → given ≡ Some kind → number_for given ≢ 0
+number_there {given} {kind} e none = kind_there kind (ap number_for (sym e) ∙ none)
+
+pub number_by : {given : Option Kind} {kind : Kind} {number : ℕ} → given ≡ Some kind → number ≡ kind_number kind → number ≡ number_for given
+number_by e found = found ∙ ap number_for (sym e)
 
 module _ (n me k kind : ℕ) (changes buffer : List ℕ) (used : ℕ) (can : Sendable n me k kind changes (length buffer) used) (some : kind ≢ 0) where
   -- The buffer once the neighbour's number is stored.
@@ -96,11 +102,17 @@ module _ (n me k kind : ℕ) (changes buffer : List ℕ) (used : ℕ) (can : Sen
         can.legal some,
       )
 
-  -- It answers the message's length.
-  pub answered_by : {r : Written}
-      → writing_said r ≡ said (write_refusal n (fields_of kind me changes) (length numbered) (used + 1)) (length_value (fields_of kind me changes))
-      → r ≡ Length (written_length (length changes))
-  answered_by {r} e = one_writing r (Length (written_length (length changes))) (e ∙ said_accepted _ _ unrefused)
+  -- It answers the message's length, and no refusal.
+  answered : write_answer n (fields_of kind me changes) (length numbered) (used + 1) ≡ answer_base + written_length (length changes)
+  unfolding write_answer
+  answered = rw unrefused
+
+  module _ (answer : Result ℕ Refusal) (e : answer_of answer ≡ write_answer n (fields_of kind me changes) (length numbered) (used + 1)) where
+    pub bytes_by : {bytes : ℕ} → answer ≡ Ok bytes → bytes ≡ written_length (length changes)
+    bytes_by {bytes} f = omega (arith, ap answer_of (sym f) ∙ e ∙ answered)
+
+    pub not_refused : (refusal : Refusal) → answer ≡ Err refusal → ⊥
+    not_refused refusal f = absurd (omega (arith, number_below refusal, ap answer_of (sym f) ∙ e ∙ answered))
 
   -- The bytes used then.
   used_one : used + 1 + written_length (length changes) ≡ used + length (bytes_to k kind me changes)

@@ -11,12 +11,15 @@ use lib.Seq.{get_or-take, get_or-drop}
 use Rattle.std.specs.Prelude.{if◌then◌else◌}
 use Rattle.ground.specs.Limits.{firmware_room, legal_cost}
 use Rattle.ground.specs.Refusal.{accepted, ◌gives◌, ◌otherwise◌}
+use Rattle.ground.specs.Refused.{number_of}
+use Rattle.ground.specs.declared.refusals.Refusal.{Refusal}
 use Rattle.ground.specs.Rows.{at}
 use Rattle.rules.specs.Hub.{hub_up, hub_cost, hub_down, hub_refusal, table_refusal, too_short}
 use Rattle.rules.specs.Network.{bad_ends, link_refusal}
 use Rattle.rules.specs.Tables.{unit_from, costs_at, fit_unit_table}
 use Rattle.rules.specs.Unit.{is_neighbour}
-use Rattle.ground.proofs.Refusal.{gives_none, otherwise_none, first_counts, rest_counts, in_a_row}
+use Rattle.ground.proofs.Answers.{refusal_first}
+use Rattle.ground.proofs.Refusal.{gives_none, otherwise_none, rest_counts, in_a_row}
 use Rattle.ground.proofs.Tests.{neither}
 use Rattle.rules.proofs.FitUnit.{FitFacts, fit_table_facts}
 use Rattle.unit.specs.Calls.{end_refusal, cost_in, link_rest, first_refusal, call_of}
@@ -52,31 +55,31 @@ module _ (words : List ℕ) (room to : ℕ) where
       → first_refusal words room to test asks ≡ first_refusal words room to legal asks
   by_cost asks found = ap (λ (t : Bool). first_refusal words room to t asks) found
 
-  module _ (legal asks : Bool) {ends : ℕ} (e : ends ≡ end_refusal words to) where
+  module _ (legal asks : Bool) where
     -- A refusal of the ends counts.
-    pub ends_first : ends ≢ accepted → ends ≡ first_refusal words room to legal asks
-    ends_first d = e ∙ sym (first_counts (end_refusal words to) _ (λ z. d (e ∙ z)))
+    pub ends_first : (refusal : Refusal) → number_of refusal ≡ end_refusal words to → number_of refusal ≡ first_refusal words room to legal asks
+    ends_first refusal e = refusal_first refusal _ _ e
 
     -- Where there is none, the rest does: 4 first.
-    module _ (none : ends ≡ accepted) where
+    module _ (none : accepted ≡ end_refusal words to) where
       rest : first_refusal words room to legal asks ≡ link_rest (unit_from words) room to legal asks
-      rest = rest_counts (end_refusal words to) _ (sym e ∙ none)
+      rest = rest_counts (end_refusal words to) _ (sym none)
 
       pub cost_next : legal ≡ false → 4 ≡ first_refusal words room to legal asks
       cost_next illegal = sym (rest ∙ rw illegal)
 
       -- Then 5 or 6, of the link as the table's cost has it.
-      module _ (is-legal : legal ≡ true) {cost link : ℕ} (read : cost ≡ cost_in words to)
-          (found : link ≡ link_refusal (not (eqb cost 0)) asks) where
-        linked : first_refusal words room to legal asks ≡ (link otherwise too_short room gives 7)
-        linked = rest ∙ rw (is-legal, found, read)
+      module _ (is-legal : legal ≡ true) {cost : ℕ} (read : cost ≡ cost_in words to) where
+        linked : first_refusal words room to legal asks ≡ (link_refusal (not (eqb cost 0)) asks otherwise too_short room gives 7)
+        linked = rest ∙ rw (is-legal, read)
 
-        pub link_next : link ≢ accepted → link ≡ first_refusal words room to legal asks
-        link_next d = sym (linked ∙ first_counts link _ d)
+        pub link_next : (refusal : Refusal) → number_of refusal ≡ link_refusal (not (eqb cost 0)) asks
+            → number_of refusal ≡ first_refusal words room to legal asks
+        link_next refusal e = refusal_first refusal _ _ e ∙ sym linked
 
         -- And 7.
-        pub room_next : link ≡ accepted → (too_short room gives 7) ≡ first_refusal words room to legal asks
-        room_next z = sym (linked ∙ rest_counts link _ z)
+        pub room_next : accepted ≡ link_refusal (not (eqb cost 0)) asks → (too_short room gives 7) ≡ first_refusal words room to legal asks
+        room_next z = sym (linked ∙ rest_counts _ _ (sym z))
 
 -- The refusal of a call, once it is known which it is.
 module _ (words : List ℕ) (room : ℕ) (bytes : List ℕ) {call : Call} {number : ℕ} where

@@ -1,29 +1,33 @@
 -- The call that brings a message: its refusals are those about its link and then those of its content; what it tells
 -- that nothing refuses it; and what step A makes of the message.
-use Prim.Native.Nat.{ℕ, ◌≤◌, ◌<◌}
-use native.Mathlib.Omega.{arith}
+use Prim.Native.Nat.{ℕ}
 use mathlib.Core.Bool.{true, false, not, ◌&&◌}
 use mathlib.Core.List.{List}
-use mathlib.Core.Logic.{◌⊎◌, inl, inr, ◌≢◌}
+use mathlib.Core.Logic.{◌⊎◌, inl, inr}
 use mathlib.Core.Path.{◌≡◌, refl, sym, ap, ◌∙◌}
-use borrow.Author.Tests.{eqb-true, le-leb, lt-leb, not-false}
-use lib.Dec.{eqb}
+use borrow.Author.Tests.{eqb-true, not-false}
+use lib.Dec.{eqb, leb}
 use lib.ListN.{take}
 use Rattle.ground.specs.Refusal.{accepted, ◌gives◌, ◌otherwise◌}
+use Rattle.ground.specs.Refused.{number_of}
+use Rattle.ground.specs.declared.refusals.Refusal.{Refusal}
 use Rattle.rules.specs.Event.{received, noted, owed_of}
 use Rattle.rules.specs.Hub.{hub_message, hub_refusal, table_refusal, too_short}
-use Rattle.rules.specs.Message.{Message, message_of, readable, holds_update}
+use Rattle.rules.specs.Message.{Message, update, message_of, readable, holds_update}
 use Rattle.rules.specs.Network.{bad_ends}
 use Rattle.rules.specs.Tables.{unit_from, fit_unit_table}
 use Rattle.rules.specs.Unit.{Unit, is_neighbour, fit_unit}
 use Rattle.message.specs.Fields.{fields_of}
+use Rattle.message.specs.Kind.{kind_number}
+use Rattle.message.specs.declared.reader.Header.{Header}
 use Rattle.state.specs.Holding.{held_of, unit_of}
 use Rattle.state.specs.declared.held.Held.{Held}
 use Rattle.unit.specs.Calls.{first_refusal, content_refusal, noted_by}
 use Rattle.unit.specs.declared.calls.Call.TheVariants.{Message as FromNeighbour}
 use Rattle.unit.specs.declared.calls.Noted.{Noted}
 use Rattle.ground.proofs.Lists.{parts}
-use Rattle.ground.proofs.Refusal.{gives_none, otherwise_none, first_counts, rest_counts, in_a_row}
+use Rattle.ground.proofs.Answers.{refusal_first}
+use Rattle.ground.proofs.Refusal.{gives_none, otherwise_none, rest_counts, in_a_row}
 use Rattle.ground.proofs.Tests.{both, if_true, if_false}
 use Rattle.rules.proofs.Fit.{fit_unit_shaped}
 use Rattle.rules.proofs.Noted.{received_fit}
@@ -47,18 +51,18 @@ module _ (words : List ℕ) (room from : ℕ) (bytes : List ℕ) where
       ∙ in_a_row (a otherwise b) (d otherwise f) g
 
   -- The link's refusal is the message's.
-  pub link_refused : {number : ℕ} → number ≡ first_refusal words room from true false → number ≢ accepted
-      → number ≡ table_refusal words room (hub_message from bytes)
-  link_refused e d = e ∙ sym (message_parts ∙ first_counts _ _ (λ z. d (e ∙ z)))
+  pub link_refused : (refusal : Refusal) → number_of refusal ≡ first_refusal words room from true false
+      → number_of refusal ≡ table_refusal words room (hub_message from bytes)
+  link_refused refusal e = refusal_first refusal _ _ e ∙ sym message_parts
 
   -- Where the link has none, the content's is.
-  pub content_refused : {number content : ℕ} {u : Unit} → number ≡ first_refusal words room from true false
-      → number ≡ accepted → content ≡ content_refusal u from bytes → u ≡ unit_from words
+  pub content_refused : {content : ℕ} {u : Unit} → accepted ≡ first_refusal words room from true false
+      → content ≡ content_refusal u from bytes → u ≡ unit_from words
       → content ≡ table_refusal words room (hub_message from bytes)
-  content_refused e none found held =
+  content_refused none found held =
       found
       ∙ ap (λ (v : Unit). content_refusal v from bytes) held
-      ∙ sym (message_parts ∙ rest_counts _ _ (sym e ∙ none))
+      ∙ sym (message_parts ∙ rest_counts _ _ (sym none))
 
 -- The unit of a fit table is fit.
 pub table_fit : (words : List ℕ) → fit_unit_table words ≡ true → fit_unit (unit_from words) ≡ true
@@ -95,22 +99,24 @@ welcome words room from bytes e =
     }
 
 -- What step A makes of the message that was taken.
-module _ (h : Held) (from : ℕ) (bytes : List ℕ) (sent : (message_of bytes).sender ≡ from) {kind sender entries : ℕ}
-    {changes : List ℕ} (t : Taken h.count bytes kind sender entries changes) where
-  same_message : fields_of kind from (take entries changes) ≡ message_of bytes
+module _ (h : Held) (from : ℕ) (bytes : List ℕ) (sent : (message_of bytes).sender ≡ from) (header : Header)
+    {changes : List ℕ} (t : Taken h.count bytes header changes) where
+  same_message : fields_of (kind_number header.kind) from (take header.entries changes) ≡ message_of bytes
   same_message = λ i. record { kind = t.of_kind i; sender = sym sent i; changes = t.part i }
 
-  owed_by : {owed : ℕ} → ((kind < 2) × (owed ≡ h.count)) ⊎ ((2 ≤ kind) × (owed ≡ from))
-      → owed ≡ owed_of h.count (received (message_of bytes))
-  owed_by (inl q) =
-      q.1
-      ∙ sym (if_false (holds_update (message_of bytes)) _ _ (lt-leb 2 (message_of bytes).kind (omega (arith, q.0, t.of_kind))))
-  owed_by (inr q) =
-      q.1 ∙ sym sent
-      ∙ sym (if_true (holds_update (message_of bytes)) _ _ (le-leb 2 (message_of bytes).kind (omega (arith, q.0, t.of_kind))))
+  -- The one who is owed, by whether there is an update.
+  abbrev Owed : (owed : ℕ) → Type 0
+  Owed owed =
+      ((false ≡ leb update (kind_number header.kind)) × (owed ≡ h.count))
+      ⊎ ((true ≡ leb update (kind_number header.kind)) × (owed ≡ from))
 
-  pub taken_noted : {after : Held} → after ≡ held_of (noted (unit_of h) (received (fields_of kind from (take entries changes))))
-      → {owed : ℕ} → ((kind < 2) × (owed ≡ h.count)) ⊎ ((2 ≤ kind) × (owed ≡ from))
+  owed_by : {owed : ℕ} → Owed owed → owed ≡ owed_of h.count (received (message_of bytes))
+  owed_by (inl q) = q.1 ∙ sym (if_false (holds_update (message_of bytes)) _ _ (ap (leb update) (sym t.of_kind) ∙ sym q.0))
+  owed_by (inr q) = q.1 ∙ sym sent ∙ sym (if_true (holds_update (message_of bytes)) _ _ (ap (leb update) (sym t.of_kind) ∙ sym q.0))
+
+  pub taken_noted : {after : Held}
+      → after ≡ held_of (noted (unit_of h) (received (fields_of (kind_number header.kind) from (take header.entries changes))))
+      → {owed : ℕ} → Owed owed
       → ◌≡◌ {A = Noted} (record { unit = after; new = h.count; owed = owed }) (noted_by h (FromNeighbour from) bytes)
   taken_noted e o =
       let unit = e ∙ ap (λ (m : Message). held_of (noted (unit_of h) (received m))) same_message in

@@ -1,6 +1,6 @@
 -- Order: the messages of an event as bytes in the lent buffer, one by one. proofs/AllMessages.antt and
 -- proofs/Composed.antt show that they are `outgoing`.
-use Rattle.std.specs.Prelude.{ℕ, ◌+◌, ◌≤◌, ◌<◌, Bool, true, List, [], ◌∷◌, ◌≢◌, ◌≡◌, eqb, length, take}
+use Rattle.std.specs.Prelude.{ℕ, ◌+◌, ◌≤◌, ◌<◌, Bool, true, List, [], ◌∷◌, Option, None, Some, ◌≢◌, ◌≡◌, eqb, length, take}
 use Rattle.std.specs.Prelude.{if◌then◌else◌}
 use Rattle.ground.specs.Limits.{unit_limit, message_room, firmware_room, change_base}
 use Rattle.ground.specs.Rows.{at, tab, filled, joined}
@@ -9,6 +9,8 @@ use Rattle.rules.specs.Event.{changed}
 use Rattle.rules.specs.Hub.{outgoing_to}
 use Rattle.rules.specs.Message.{written, legal_message}
 use Rattle.rules.specs.Unit.{Unit}
+use Rattle.message.specs.Kind.{kind_number}
+use Rattle.message.specs.declared.kind.Kind.{Kind}
 use Rattle.state.specs.Holding.{unit_of}
 use Rattle.unit.specs.Reacted.{FitHeld}
 use Rattle.rules.specs.Event.{message_to}
@@ -26,6 +28,11 @@ listed changes = record { number = length changes; list = filled unit_limit chan
 -- The kind of the message to a neighbour that is sent an update or owed an acknowledgment; 0 for none.
 abbrev pub kind_for : (sent owed : Bool) → ℕ
 kind_for sent owed = if sent then (if owed then 3 else 2) else if owed then 1 else 0
+
+-- The number of a kind that may be none.
+abbrev pub number_for : Option Kind → ℕ
+number_for None = 0
+number_for (Some kind) = kind_number kind
 
 -- The bytes for neighbour k: none, or its number and the message.
 abbrev pub bytes_to : (k kind sender : ℕ) (changes : List ℕ) → List ℕ

@@ -1,8 +1,8 @@
 // The calls of one unit, over the table of numbers that the caller lends. A refusal leaves the table and the buffer as they came;
-// an accepted call answers 100 plus the bytes used in the buffer.
-ghost use Rattle.std.specs.Prelude.{◌≡◌, ◌+◌, ◌≤◌, length};
+// an accepted call answers the bytes used in the buffer.
+ghost use Rattle.std.specs.Prelude.{◌≡◌, ◌≤◌, IfOk, length};
 ghost use Rattle.ground.specs.Limits.{firmware_room};
-ghost use Rattle.ground.specs.Refusal.{answer_base};
+ghost use Rattle.ground.specs.Refused.{answer_of};
 ghost use Rattle.rules.specs.Event.{reaction_by};
 ghost use Rattle.rules.specs.Hub.{table_answer, table_after, buffer_after, outgoing, outgoing_laid};
 ghost use Rattle.rules.specs.Tables.{unit_words, laid_unit};
@@ -12,9 +12,8 @@ ghost use Rattle.unit.specs.Reacted.{FitHeld};
 ghost use Rattle.unit.specs.declared.calls.Call.TheVariants.{Message};
 
 use crate::{event, noting, refusing};
-use ground::ANSWERED;
+use ground::refusals::Refusal;
 use message::reader;
-use message::reader::Answer;
 use state::held;
 use state::held::Held;
 
@@ -44,13 +43,7 @@ fn take(unit: Held, from: u32, bytes: &[u8]) -> Noted
 {
     let count = unit.count;
     let read = reader::read(count as u32, bytes);
-    let answer = read.answer;
-    let Answer::Message {
-        kind,
-        sender: _,
-        entries,
-    } = answer
-    else {
+    let Ok(header) = read.answer else {
         // No refusal is left to pass on: `refusing` read the same bytes.
         return Noted {
             unit,
@@ -59,9 +52,13 @@ fn take(unit: Held, from: u32, bytes: &[u8]) -> Noted
         };
     };
     let changes = read.changes;
-    let owed = if kind < 2 { count } else { from as usize };
+    let owed = if header.kind.updates() {
+        from as usize
+    } else {
+        count
+    };
     Noted {
-        unit: noting::received(unit, kind, from as usize, &changes[..entries]),
+        unit: noting::received(unit, header.kind, from as usize, &changes[..header.entries]),
         new: count,
         owed,
     }
@@ -94,9 +91,17 @@ fn note(unit: Held, call: Call, bytes: &[u8]) -> Noted
 }
 
 // Steps B to F, and the table laid anew.
-fn finish(table: &mut [u32], unit: Held, was: bool, new: usize, owed: usize, out: &mut [u8]) -> u32
+fn finish(
+    table: &mut [u32],
+    unit: Held,
+    was: bool,
+    new: usize,
+    owed: usize,
+    out: &mut [u8],
+) -> usize
     requires { FitHeld unit × (length table.old ≡ unit_words) × ((owed ≡ unit.me) → ⊥) × (firmware_room ≤ length out.old) }
-    ensures answer { result ≡ answer_base + length (outgoing (reaction_by (unit_of unit) was new owed)) }
+    ensures answer { result ≡ length (outgoing (reaction_by (unit_of unit) was new owed)) }
+    ensures short { result ≤ firmware_room }
     ensures table { table.new ≡ laid_unit (reaction_by (unit_of unit) was new owed).unit }
     ensures sent { out.new ≡ outgoing_laid (reaction_by (unit_of unit) was new owed) out.old }
 {
@@ -104,22 +109,20 @@ fn finish(table: &mut [u32], unit: Held, was: bool, new: usize, owed: usize, out
     let after = reacted.unit;
     let successors = reacted.successors;
     held::put_unit(table, after, successors);
-    ANSWERED + (reacted.used as u32)
+    reacted.used
 }
 
-// The unit's answer to a call: the lowest refusal that applies, or 100 plus the bytes used.
-pub fn answer(table: &mut [u32], call: Call, bytes: &[u8], out: &mut [u8]) -> u32
-    ensures answer { result ≡ table_answer table.old (length out.old) (call_of call bytes.now) }
+// The unit's answer to a call: the lowest refusal that applies, or the bytes used.
+pub fn answer(table: &mut [u32], call: Call, bytes: &[u8], out: &mut [u8]) -> Result<usize, Refusal>
+    ensures answer { answer_of result ≡ table_answer table.old (length out.old) (call_of call bytes.now) }
+    ensures short { IfOk result (λ used. used ≤ firmware_room) }
     ensures table { table.new ≡ table_after table.old (length out.old) (call_of call bytes.now) }
     ensures sent { out.new ≡ buffer_after table.old out.old (call_of call bytes.now) }
 {
-    let number = refusing::refusal(table, call, bytes, out.len());
-    if number != 0 {
-        return number;
-    }
+    refusing::check(table, call, bytes, out.len())?;
     let unit = held::unit_in(table);
     let was = held::is_active(unit);
     let noted = note(unit, call, bytes);
     let after = noted.unit;
-    finish(table, after, was, noted.new, noted.owed, out)
+    Ok(finish(table, after, was, noted.new, noted.owed, out))
 }

@@ -173,6 +173,7 @@ fn new_awaited(
 pub(crate) fn react(unit: Held, was: bool, new: usize, owed: usize, out: &mut [u8]) -> Reacted
     requires { FitHeld unit × ((owed ≡ unit.me) → ⊥) × (firmware_room ≤ length out.old) }
     ensures reacted { result ≡ reacted_of (unit_of unit) was new owed }
+    ensures short { result.used ≤ firmware_room }
     ensures sent { out.new ≡ reacted_out (unit_of unit) was new owed out.old }
 {
     let count = unit.count;

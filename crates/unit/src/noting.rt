@@ -6,10 +6,12 @@ ghost use Rattle.rules.specs.Message.{applied as appliedTo, entry_of};
 ghost use Rattle.rules.specs.Tables.{laid_row};
 ghost use Rattle.tree.specs.Recompute.{copy_of};
 ghost use Rattle.message.specs.Fields.{fields_of};
+ghost use Rattle.message.specs.Kind.{kind_number};
 ghost use Rattle.state.specs.Holding.{held_of, unit_of};
 ghost use Rattle.unit.specs.Noting.{Padded, UnitsBelow};
 
 use ground::{CHANGE_BASE, COPIES, REMOVED, UNITS};
+use message::kind::Kind;
 use recomputing::copies;
 use state::held::Held;
 
@@ -121,17 +123,17 @@ pub(crate) fn link_down(unit: Held, k: usize) -> Held
 }
 
 // A message: its acknowledgment clears the wait on the sender, its update changes the sender's copy.
-pub(crate) fn received(unit: Held, kind: u32, sender: usize, changes: &[u32]) -> Held
+pub(crate) fn received(unit: Held, kind: Kind, sender: usize, changes: &[u32]) -> Held
     requires { Padded unit × (sender < unit.count) × UnitsBelow unit.count changes.now }
-    ensures { result ≡ held_of (noted (unit_of unit) (receivedMessage (fields_of kind sender changes.now))) }
+    ensures { result ≡ held_of (noted (unit_of unit) (receivedMessage (fields_of (kind_number kind) sender changes.now))) }
 {
     let costs = unit.costs;
     let mut awaited = unit.awaited;
-    if kind % 2 == 1 {
+    if kind.acknowledges() {
         awaited[sender] = 0;
     }
     let copies = unit.copies;
-    if kind < 2 {
+    if !kind.updates() {
         return with_links(unit, costs, awaited, copies);
     }
     let copy = applied(copy_of(unit, sender), changes);

@@ -1,5 +1,6 @@
-// The refusals of a unit's calls, in the order of their numbers: the lowest that applies counts, and 0 stands for none.
+// The refusals of a unit's calls, in the order of their numbers: the lowest that applies counts.
 ghost use Rattle.std.specs.Prelude.{◌≡◌, ◌<◌};
+ghost use Rattle.ground.specs.Refused.{refused_as};
 ghost use Rattle.rules.specs.Hub.{hub_message, table_refusal};
 ghost use Rattle.rules.specs.Network.{bad_ends, link_refusal};
 ghost use Rattle.state.specs.Holding.{unit_of};
@@ -8,9 +9,10 @@ ghost use Rattle.unit.specs.Reacted.{FitHeld};
 
 use crate::calls::Call;
 use crate::noting;
+use ground::refusals::Refusal;
 use ground::{FIRMWARE_ROOM, is_legal_cost};
 use message::reader;
-use message::reader::Answer;
+use message::reader::Header;
 use recomputing::heads;
 use state::held::Held;
 use state::{fit, held};
@@ -25,19 +27,19 @@ fn is_bad_end(count: usize, me: usize, to: u32) -> bool
     me == to as usize
 }
 
-// Refusals 2 and 3 of a call about the link to a unit, or 0.
-fn end_refusal(table: &[u32], to: u32) -> u32
-    ensures { result ≡ end_refusal table.now to }
+// Refusals 2 and 3 of a call about the link to a unit.
+fn check_end(table: &[u32], to: u32) -> Result<(), Refusal>
+    ensures { refused_as result ≡ end_refusal table.now to }
 {
     if !fit::is_fit(table) {
-        return 2;
+        return Err(Refusal::Unfit);
     }
     let count = table[0] as usize;
     let me = table[1] as usize;
     if is_bad_end(count, me, to) {
-        return 3;
+        return Err(Refusal::NoUnit);
     }
-    0
+    Ok(())
 }
 
 // The cost of the link to a unit that is an end.
@@ -48,92 +50,77 @@ fn cost_to(table: &[u32], to: u32) -> u32
     table[held::COSTS + (to as usize)]
 }
 
-// Refusal 5 of a call that asks for a link that is up, 6 of another about one that is not, or 0.
-pub fn link_refusal(up: bool, asks: bool) -> u32
-    ensures { result ≡ link_refusal up asks }
+// Refusal 5 of a call that asks for a link that is up, 6 of another about one that is not.
+pub fn link_refusal(up: bool, asks: bool) -> Result<(), Refusal>
+    ensures { refused_as result ≡ link_refusal up asks }
 {
-    if asks {
-        if up { 5 } else { 0 }
-    } else {
-        if up { 0 } else { 6 }
+    match (up, asks) {
+        (true, true) => Err(Refusal::LinkUp),
+        (false, false) => Err(Refusal::LinkDown),
+        _ => Ok(()),
     }
 }
 
-// Refusals 2 to 7 of a call about the link to a unit, or 0: whether its cost is legal, and whether it asks for the link.
-fn first_refusal(table: &[u32], to: u32, legal: bool, asks: bool, room: usize) -> u32
-    ensures { result ≡ first_refusal table.now room to legal asks }
+// Refusals 2 to 7 of a call about the link to a unit: whether its cost is legal, and whether it asks for the link.
+fn check_first(table: &[u32], to: u32, legal: bool, asks: bool, room: usize) -> Result<(), Refusal>
+    ensures { refused_as result ≡ first_refusal table.now room to legal asks }
 {
-    let number = end_refusal(table, to);
-    if number != 0 {
-        return number;
-    }
+    check_end(table, to)?;
     if !legal {
-        return 4;
+        return Err(Refusal::Cost);
     }
-    let link = link_refusal(cost_to(table, to) != 0, asks);
-    if link != 0 {
-        return link;
-    }
+    link_refusal(cost_to(table, to) != 0, asks)?;
     if room < FIRMWARE_ROOM {
-        return 7;
+        return Err(Refusal::Room);
     }
-    0
+    Ok(())
 }
 
-// Refusals 9 to 12 of bytes that came by an up link, or 0.
-fn content_refusal(unit: Held, from: usize, bytes: &[u8]) -> u32
+// Refusals 9 to 12 of bytes that came by an up link.
+fn check_content(unit: Held, from: usize, bytes: &[u8]) -> Result<(), Refusal>
     requires { FitHeld unit × (from < unit.count) }
-    ensures { result ≡ content_refusal (unit_of unit) from bytes.now }
+    ensures { refused_as result ≡ content_refusal (unit_of unit) from bytes.now }
 {
     let read = reader::read(unit.count as u32, bytes);
-    let answer = read.answer;
-    let Answer::Message {
+    let Header {
         kind,
         sender,
         entries,
-    } = answer
-    else {
-        return reader::refusal_of(answer);
-    };
+    } = read.answer?;
     if sender as usize != from {
-        return 9;
+        return Err(Refusal::Message);
     }
     let awaited = unit.awaited;
-    if kind % 2 == 1 {
-        if awaited[from] == 0 {
-            return 10;
-        }
+    if kind.acknowledges() && awaited[from] == 0 {
+        return Err(Refusal::NotAwaited);
     }
     let copy = noting::copy_of(unit, from);
     let changes = read.changes;
     if noting::changes_nothing(copy, &changes[..entries]) {
-        return 11;
+        return Err(Refusal::ChangesNothing);
     }
     let after = noting::applied(copy, &changes[..entries]);
     if !heads::is_tree(&after[..unit.count], from) {
-        return 12;
+        return Err(Refusal::NotATree);
     }
-    0
+    Ok(())
 }
 
-fn message_refusal(table: &[u32], from: u32, bytes: &[u8], room: usize) -> u32
-    ensures { result ≡ table_refusal table.now room (hub_message from bytes.now) }
+fn check_message(table: &[u32], from: u32, bytes: &[u8], room: usize) -> Result<(), Refusal>
+    ensures { refused_as result ≡ table_refusal table.now room (hub_message from bytes.now) }
 {
-    let number = first_refusal(table, from, true, false, room);
-    if number != 0 {
-        return number;
-    }
-    content_refusal(held::unit_in(table), from as usize, bytes)
+    check_first(table, from, true, false, room)?;
+    check_content(held::unit_in(table), from as usize, bytes)
 }
 
-// The lowest refusal of a call, or 0.
-pub(crate) fn refusal(table: &[u32], call: Call, bytes: &[u8], room: usize) -> u32
-    ensures { result ≡ table_refusal table.now room (call_of call bytes.now) }
+// The lowest refusal of a call.
+pub(crate) fn check(table: &[u32], call: Call, bytes: &[u8], room: usize) -> Result<(), Refusal>
+    ensures { refused_as result ≡ table_refusal table.now room (call_of call bytes.now) }
 {
     match call {
-        Call::Up { to, cost } => first_refusal(table, to, is_legal_cost(cost), true, room),
-        Call::Cost { to, cost } => first_refusal(table, to, is_legal_cost(cost), false, room),
-        Call::Down { to } => first_refusal(table, to, true, false, room),
-        Call::Message { from } => message_refusal(table, from, bytes, room),
+        Call::Up { to, cost } => check_first(table, to, is_legal_cost(cost), true, room),
+        Call::Cost { to, cost } => check_first(table, to, is_legal_cost(cost), false, room),
+        Call::Down { to } => check_first(table, to, true, false, room),
+        Call::Message { from } => check_message(table, from, bytes, room),
     }
 }

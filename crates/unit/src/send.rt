@@ -2,14 +2,14 @@
 ghost use Rattle.std.specs.Prelude.{not, ◌&&◌, ◌||◌, [], ◌≡◌, ◌+◌, ◌≤◌, ◌<◌, eqb, length, take};
 ghost use Rattle.ground.specs.Rows.{laid_after};
 ghost use Rattle.std.specs.Prelude.{if◌then◌else◌};
-ghost use Rattle.ground.specs.Limits.{unit_limit, change_base};
+ghost use Rattle.ground.specs.Limits.{unit_limit, change_base, firmware_room};
 ghost use Rattle.rules.specs.Message.{change as changeTo, body_for, differences as differencesOf};
 ghost use Rattle.state.specs.Holding.{unit_of};
-ghost use Rattle.unit.specs.Sending.{Small, listed, kind_for, bytes_to, Sendable, SendableAll, sent_bytes};
+ghost use Rattle.unit.specs.Sending.{Small, listed, kind_for, number_for, bytes_to, Sendable, SendableAll, sent_bytes};
 
 use ground::{CHANGE_BASE, REMOVED, UNITS};
+use message::kind::Kind;
 use message::writer;
-use message::writer::Written;
 use state::held::Held;
 
 // Changes of a tree, one number each, and zeros after the last.
@@ -51,17 +51,16 @@ fn is_sent(cost: u32, changed: bool, new: bool) -> bool
     cost != 0 && (changed || new)
 }
 
-// The kind of the message to a neighbour: 0 for none.
-fn kind_for(sent: bool, owed: bool) -> u32
-    ensures { result ≡ kind_for sent owed }
+// The kind of the message to a neighbour, if there is one.
+fn kind_for(sent: bool, owed: bool) -> Option<Kind>
+    ensures { number_for result ≡ kind_for sent owed }
 {
-    if sent {
-        if owed {
-            return 3;
-        }
-        return 2;
+    match (sent, owed) {
+        (true, true) => Some(Kind::Both),
+        (true, false) => Some(Kind::Update),
+        (false, true) => Some(Kind::Acknowledgment),
+        (false, false) => None,
     }
-    if owed { 1 } else { 0 }
 }
 
 // The changes in the message to a neighbour: all of the tree for a new one, none without an update.
@@ -82,22 +81,29 @@ fn lay_one(
     count: usize,
     me: usize,
     k: usize,
-    kind: u32,
+    kind: Option<Kind>,
     changes: &[u32],
     out: &mut [u8],
     used: usize,
 ) -> usize
-    requires { Sendable count me k kind changes.now (length out.old) used }
-    ensures answer { result ≡ used + length (bytes_to k kind me changes.now) }
-    ensures laid { out.new ≡ laid_after used (bytes_to k kind me changes.now) out.old }
+    requires { Sendable count me k (number_for kind) changes.now (length out.old) used }
+    ensures answer { result ≡ used + length (bytes_to k (number_for kind) me changes.now) }
+    ensures laid { out.new ≡ laid_after used (bytes_to k (number_for kind) me changes.now) out.old }
 {
-    if kind == 0 {
+    let Some(kind) = kind else {
         return used;
-    }
+    };
     out[used] = (k % 256) as u8;
-    match writer::write(count as u32, kind, me as u32, changes, out, used + 1) {
-        Written::Length(bytes) => used + 1 + bytes,
-        Written::Refused(_) => used,
+    match writer::write(
+        count as u32,
+        kind.number(),
+        me as u32,
+        changes,
+        out,
+        used + 1,
+    ) {
+        Ok(bytes) => used + 1 + bytes,
+        Err(_) => used,
     }
 }
 
@@ -112,6 +118,7 @@ pub(crate) fn send(
 ) -> usize
     requires { SendableAll unit tree changed owed (length out.old) }
     ensures answer { result ≡ length (sent_bytes (unit_of unit) (take unit.count tree) new owed) }
+    ensures short { result ≤ firmware_room }
     ensures laid { out.new ≡ laid_after 0 (sent_bytes (unit_of unit) (take unit.count tree) new owed) out.old }
 {
     let count = unit.count;

@@ -6,7 +6,7 @@ use Rattle.ground.proofs.Tests.{not_both}
 use Rattle.message.proofs.ReaderAnswers.{taken, unread}
 use Rattle.unit.proofs.MessageCalls.{taken_noted}
 use Rattle.unit.proofs.calls.take.Goals as goal
-use Rattle.unit.proofs.calls.take.Goals.{then-kind-lt2, else-kind-lt2}
+use Rattle.unit.proofs.calls.take.Goals.{then-updates, else-updates}
 
 pub overflow_cast-count : goal.overflow_cast-count
 overflow_cast-count c = omega (arith, c.requires.padded.count)
@@ -15,34 +15,29 @@ pub returns-in_default : goal.returns-in_default
 returns-in_default c =
     absurd
     (not_both _ c.requires.message.0
-    (unread _ c.args.bytes.now c.read-read.result c.requires.legal (heard_answer_changes c.read-read.ensures)
-    c.in_default.is))
+    (unread _ c.args.bytes.now c.read-read.result (heard_answer_changes c.read-read.ensures) c.requires.legal c.in_default.field-0 c.in_default.is))
 
 pub slice_bounds-changes-end : goal.slice_bounds-changes-end
 slice_bounds-changes-end c =
-    (taken _ c.args.bytes.now c.read-read.result c.requires.legal (heard_answer_changes c.read-read.ensures)
-    c.in-Message.is).share
+    (taken _ c.args.bytes.now c.read-read.result (heard_answer_changes c.read-read.ensures) c.in-Ok.header c.in-Ok.is).share
 
 pub slice_bounds-received-end : goal.slice_bounds-received-end
 slice_bounds-received-end c =
-    (taken _ c.args.bytes.now c.read-read.result c.requires.legal (heard_answer_changes c.read-read.ensures)
-    c.in-Message.is).long
+    (taken _ c.args.bytes.now c.read-read.result (heard_answer_changes c.read-read.ensures) c.in-Ok.header c.in-Ok.is).long
 
 pub received-requires : goal.received-requires
 received-requires c = (
   c.requires.padded,
   c.requires.below,
-  (taken _ c.args.bytes.now c.read-read.result c.requires.legal (heard_answer_changes c.read-read.ensures)
-      c.in-Message.is).units,
+  (taken _ c.args.bytes.now c.read-read.result (heard_answer_changes c.read-read.ensures) c.in-Ok.header c.in-Ok.is).units,
 )
 
 pub returns : goal.returns
 returns c =
-    taken_noted c.args.unit c.args.from c.args.bytes.now c.requires.message.1
-    (taken _ c.args.bytes.now c.read-read.result c.requires.legal (heard_answer_changes c.read-read.ensures)
-    c.in-Message.is)
+    taken_noted c.args.unit c.args.from c.args.bytes.now c.requires.message.1 c.in-Ok.header
+    (taken _ c.args.bytes.now c.read-read.result (heard_answer_changes c.read-read.ensures) c.in-Ok.header c.in-Ok.is)
     c.received.ensures
-    (elim c.if-kind-lt2.branch [
-      | then-kind-lt2 w ↦ inl (w.if-kind-lt2.true, w.owed-is)
-      | else-kind-lt2 w ↦ inr (w.if-kind-lt2.false, w.owed-is)
+    (elim c.if-updates.branch [
+      | then-updates w ↦ inr (w.if-updates.ensures, w.owed-is)
+      | else-updates w ↦ inl (w.if-updates.ensures, w.owed-is)
     ])

@@ -68,5 +68,6 @@ returns c =
           c.feasible_after-feasible.result
           c.sets_over-successors.ensures)
           c.send-used.ensures.answer;
+      short = c.send-used.ensures.short;
       sent = buffer_composed unit was new owed fit c.new_tree-tree.result tree c.args.out.now c.send-used.ensures.laid;
     }

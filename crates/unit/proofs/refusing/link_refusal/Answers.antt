@@ -1,14 +1,8 @@
--- `unit::refusing::link_refusal` meets its contract: each return rewrites the definition by the tests that led there.
+-- `unit::refusing::link_refusal` meets its contract. What another refusal shows first is written out.
 use Rattle.unit.proofs.refusing.link_refusal.Goals as goal
 
-pub returns-then-up : goal.returns-then-up
-returns-then-up c = rw (c.if-asks.true, c.if-up.true)
+pub returns-in-true-true : goal.returns-in-true-true
+returns-in-true-true c = rw (c.in-true-true.is-0, c.in-true-true.is-1)
 
-pub returns-else-up : goal.returns-else-up
-returns-else-up c = rw (c.if-asks.true, c.if-up.false)
-
-pub returns-then-up-2 : goal.returns-then-up-2
-returns-then-up-2 c = rw (c.if-asks.false, c.if-up-2.true)
-
-pub returns-else-up-2 : goal.returns-else-up-2
-returns-else-up-2 c = rw (c.if-asks.false, c.if-up-2.false)
+pub returns-in-false-false : goal.returns-in-false-false
+returns-in-false-false c = rw (c.in-false-false.is-0, c.in-false-false.is-1)

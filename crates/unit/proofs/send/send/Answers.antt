@@ -8,9 +8,9 @@ use lib.ListN.{length}
 use lib.Seq.{length-take-le}
 use Rattle.ground.specs.Limits.{unit_limit}
 use Rattle.ground.specs.Rows.{laid_after}
-use Rattle.unit.specs.Sending.{kind_for, bytes_to}
+use Rattle.unit.specs.Sending.{kind_for, number_for, bytes_to}
 use Rattle.unit.proofs.LaidMessages.{sent_to, list_in, sendable_as, laid_more}
-use Rattle.unit.proofs.AllMessages.{bytes_for, picked, facts, small_tree, place_for, sendable_one, sent_all}
+use Rattle.unit.proofs.AllMessages.{bytes_for, picked, facts, small_tree, place_for, sendable_one, sent_all, sent_short}
 use Rattle.unit.proofs.send.send.Goals as goal
 
 pub differences-some-requires : goal.differences-some-requires
@@ -34,9 +34,9 @@ loop-k-preserved c =
     let found : c.changes_for-changes.result
     ≡ picked (sent_to args.unit.costs args.changed args.new k) (eqb k args.new) whole some =
     rw c.is_sent-sent.ensures at c.changes_for-changes.ensures in
-    let kind : c.kind_for-kind.result ≡ kind_for (sent_to args.unit.costs args.changed args.new k) (eqb k args.owed) =
+    let kind : number_for c.kind_for-kind.result ≡ kind_for (sent_to args.unit.costs args.changed args.new k) (eqb k args.owed) =
     rw c.is_sent-sent.ensures at c.kind_for-kind.ensures in
-    let bytes : bytes_to k c.kind_for-kind.result args.unit.me (list_in c.changes_for-changes.result)
+    let bytes : bytes_to k (number_for c.kind_for-kind.result) args.unit.me (list_in c.changes_for-changes.result)
     ≡ bytes_for args.changed args.new args.owed args.unit.me args.unit.costs some whole k =
     rw (kind, found) in (
       omega (arith, c.loop-k-test.true),
@@ -88,7 +88,7 @@ lay_one-used-requires c =
     ≡ picked (sent_to args.unit.costs args.changed args.new k) (eqb k args.new)
     c.differences-whole.result c.differences-some.result =
     rw c.is_sent-sent.ensures at c.changes_for-changes.ensures in
-    let kind : c.kind_for-kind.result ≡ kind_for (sent_to args.unit.costs args.changed args.new k) (eqb k args.owed) =
+    let kind : number_for c.kind_for-kind.result ≡ kind_for (sent_to args.unit.costs args.changed args.new k) (eqb k args.owed) =
     rw c.is_sent-sent.ensures at c.kind_for-kind.ensures in
     sendable_as
     (sendable_one _ _ _ _ _ c.requires _ _ _ c.differences-some.ensures c.differences-whole.ensures
@@ -108,5 +108,8 @@ returns c =
     sent_all _ _ _ _ _ c.requires c.args.new _ _ c.differences-some.ensures c.differences-whole.ensures in
     record {
       answer = told.0 ∙ rw last (ap length whole);
+      short =
+          rw (told.0, last)
+          (sent_short _ _ _ _ _ c.requires c.args.new _ _ c.differences-some.ensures c.differences-whole.ensures);
       laid = told.1 ∙ rw last (ap (λ (bytes : List ℕ). laid_after 0 bytes c.args.out.now) whole);
     }

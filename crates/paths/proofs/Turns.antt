@@ -12,7 +12,6 @@ use lib.Dec.{eqb}
 use lib.ListN.{length, set, take, drop, length-set, length-append}
 use lib.Seq.{drop-drop, set_split, take-suc-set, drop-set-lt, length-take-le, append_snoc}
 use Rattle.ground.specs.Rows.{at, is_in}
-use Rattle.ground.specs.Said.{accepted_with}
 use Rattle.ground.proofs.Lists.{at_from}
 use Rattle.rules.specs.Network.{Network, unit_at}
 use Rattle.rules.specs.Tables.{unit_words, network_words, successors_at, network_from, fit_tables}
@@ -143,11 +142,11 @@ module _ {words : List ℕ} {start destination : ℕ} {choices buffer path : Lis
       ∙ rw (byte_unit, ← add-one hops, kept_after, ← met_length)
       (sym (append_snoc (take hops path) i (drop (length met) buffer)))
 
-  -- The answer and the path of a trace that ends at this unit.
+  -- The ending and the path of a trace that ends at this unit.
   abbrev Ends : Ending → Type 0
   Ends ending =
       ((bytes : List ℕ) → fit_tables words bytes ≡ true
-      → accepted_with (ending_values ending hops) ≡ accepted_with (trace_values words bytes start destination choices))
+      → ending_values ending hops ≡ trace_values words bytes start destination choices)
       × LaysPath words start destination choices buffer (set path hops byte)
 
   -- They are right where what is left of the trace is this unit alone.
@@ -160,8 +159,7 @@ module _ {words : List ℕ} {start destination : ℕ} {choices buffer path : Lis
   ends ending here = (
     λ bytes fit.
         sym
-        (ap (λ (t : Trace). accepted_with (values_of t)) (whole bytes fit)
-        ∙ ap (λ (k : ℕ). accepted_with (ending_values ending k)) (omega (arith, met_length))),
+        (ap values_of (whole bytes fit) ∙ ap (ending_values ending) (omega (arith, met_length))),
     λ bytes fit. laid ∙ ap (λ (t : Trace). path_laid t buffer) (sym (whole bytes fit)),
   )
     where

@@ -1,16 +1,18 @@
--- Rule: what the tracer answers over tables, as an enum and as a number.
+-- Rule: what the tracer answers over tables: how the path ended or a refusal, and as a number.
 -- Order: `units_in`, `highest_answer`, `Traceable`, `EndsAs`, `LaysPath`: how the loop finds it (proofs/Sets.antt,
 -- proofs/TraceAnswers.antt).
-use Rattle.std.specs.Prelude.{ℕ, ◌+◌, ◌*◌, ◌≤◌, ◌<◌, true, List, [], ◌∷◌, ◌≡◌, eqb}
+use Rattle.std.specs.Prelude.{ℕ, ◌+◌, ◌*◌, ◌≤◌, ◌<◌, true, List, [], ◌∷◌, ◌≡◌, eqb, Result, Ok, Err}
 use Rattle.std.specs.Prelude.{if◌then◌else◌}
 use Rattle.ground.specs.Refusal.{accepted, answer_base}
+use Rattle.ground.specs.Refused.{number_of}
+use Rattle.ground.specs.declared.refusals.Refusal.{Refusal}
 use Rattle.ground.specs.Rows.{at, rising, is_in}
 use Rattle.ground.specs.Said.{Said, accepted_with, refused_with}
 use Rattle.rules.specs.NetworkTable.{trace_table_refusal}
 use Rattle.rules.specs.Tables.{network_from, fit_tables}
 use Rattle.rules.specs.Tracer.{Trace, Ending, arrived, stranded, circling, trace, hops, path_laid}
 use Rattle.paths.specs.declared.tracer.Traced.{Traced}
-use Rattle.paths.specs.declared.tracer.Traced.TheVariants.{Arrived, Stranded, Circling, Refused}
+use Rattle.paths.specs.declared.tracer.Traced.TheVariants.{Arrived, Stranded, Circling}
 
 -- The units in a set, rising.
 abbrev pub units_in : (n set : ℕ) → List ℕ
@@ -26,11 +28,14 @@ abbrev pub ending_values : Ending → (hops : ℕ) → List ℕ
 ending_values ending hops = ending_number ending ∷ hops ∷ []
 
 -- Document 01's number and values for each case of the tracer's answer.
-abbrev pub tracing_said : Traced → Said
-tracing_said (Arrived hops) = accepted_with (ending_values arrived hops)
-tracing_said (Stranded hops) = accepted_with (ending_values stranded hops)
-tracing_said (Circling hops) = accepted_with (ending_values circling hops)
-tracing_said (Refused number) = refused_with number
+abbrev pub traced_values : Traced → List ℕ
+traced_values (Arrived hops) = ending_values arrived hops
+traced_values (Stranded hops) = ending_values stranded hops
+traced_values (Circling hops) = ending_values circling hops
+
+abbrev pub tracing_said : Result Traced Refusal → Said
+tracing_said (Ok traced) = accepted_with (traced_values traced)
+tracing_said (Err refusal) = refused_with (number_of refusal)
 
 -- The values of a trace; and of the one over tables.
 abbrev pub values_of : Trace → List ℕ
@@ -48,40 +53,35 @@ pub record Traceable (words : List ℕ) (start destination choices places : ℕ)
   pub chosen : at words 0 ≤ choices + 1
   pub room : at words 0 ≤ places
 
--- The answer, and the path buffer afterwards, that the trace over such tables gives, whatever their queues.
+-- The ending, and the path buffer afterwards, that the trace over such tables gives, whatever their queues.
 abbrev pub EndsAs : (words : List ℕ) (start destination : ℕ) (choices : List ℕ) → Traced → Type 0
-EndsAs words start destination choices answer =
-    (bytes : List ℕ) → fit_tables words bytes ≡ true
-    → tracing_said answer ≡ accepted_with (trace_values words bytes start destination choices)
+EndsAs words start destination choices traced =
+    (bytes : List ℕ) → fit_tables words bytes ≡ true → traced_values traced ≡ trace_values words bytes start destination choices
 
 abbrev pub LaysPath : (words : List ℕ) (start destination : ℕ) (choices path after : List ℕ) → Type 0
 LaysPath words start destination choices path after =
     (bytes : List ℕ) → fit_tables words bytes ≡ true
     → after ≡ path_laid (trace (network_from words bytes) start destination choices) path
 
--- For C, one number stands for an answer. The answer that stands for an ending, a trace, and a trace over tables.
-abbrev pub ended_as : Ending → (hops : ℕ) → Traced
-ended_as arrived hops = Arrived hops
-ended_as stranded hops = Stranded hops
-ended_as circling hops = Circling hops
-
-abbrev pub traced_as : Trace → Traced
-traced_as t = ended_as t.ending (hops t)
-
--- The answer over tables: the refusal, or what the trace gives.
-unfoldable pub trace_answer : (words bytes : List ℕ) (start destination : ℕ) (choices path : List ℕ) → Traced
-trace_answer words bytes start destination choices path =
-    if eqb (trace_table_refusal words bytes start destination choices path) accepted
-    then traced_as (trace (network_from words bytes) start destination choices)
-    else Refused (trace_table_refusal words bytes start destination choices path)
-
--- The number that stands for an answer: a refusal's own, below 100; 100 and the hops for arrived, 200 and the hops for
+-- For C, one number stands for an answer: a refusal's own, below 100; 100 and the hops for arrived, 200 and the hops for
 -- stranded, 300 and the hops for circling; so each is below 400.
 abbrev pub highest_answer : ℕ
 highest_answer = 4 * answer_base
 
-abbrev pub trace_number : Traced → ℕ
-trace_number (Arrived hops) = answer_base + hops
-trace_number (Stranded hops) = 2 * answer_base + hops
-trace_number (Circling hops) = 3 * answer_base + hops
-trace_number (Refused number) = number
+abbrev pub ended_number : Ending → (hops : ℕ) → ℕ
+ended_number arrived hops = answer_base + hops
+ended_number stranded hops = 2 * answer_base + hops
+ended_number circling hops = 3 * answer_base + hops
+
+abbrev pub trace_number : Result Traced Refusal → ℕ
+trace_number (Ok (Arrived hops)) = ended_number arrived hops
+trace_number (Ok (Stranded hops)) = ended_number stranded hops
+trace_number (Ok (Circling hops)) = ended_number circling hops
+trace_number (Err refusal) = number_of refusal
+
+-- That of the trace over tables: the refusal's, or that of its ending and hops.
+unfoldable pub trace_answer : (words bytes : List ℕ) (start destination : ℕ) (choices path : List ℕ) → ℕ
+trace_answer words bytes start destination choices path =
+    let refusal = trace_table_refusal words bytes start destination choices path in
+    let traced = trace (network_from words bytes) start destination choices in
+    if eqb refusal accepted then ended_number traced.ending (hops traced) else refusal

@@ -2,6 +2,7 @@
 // start first, and the bytes after them stay. A refusal changes nothing.
 ghost use Rattle.std.specs.Prelude.{◌≡◌, ◌≤◌, ◌<◌, length};
 ghost use Rattle.ground.specs.Limits.{unit_limit};
+ghost use Rattle.ground.specs.Refused.{refused_as};
 ghost use Rattle.ground.specs.Rows.{at};
 ghost use Rattle.ground.specs.Said.{said};
 ghost use Rattle.rules.specs.NetworkTable.{trace_table_refusal, path_after};
@@ -9,10 +10,11 @@ ghost use Rattle.rules.specs.Tracer.{chosen as chosenFrom};
 ghost use Rattle.paths.specs.Tracing.{units_in, tracing_said, trace_values, Traceable, EndsAs, LaysPath, trace_answer, trace_number, highest_answer};
 
 use fitness::fit;
+use ground::refusals::Refusal;
 use ground::{ANSWERED, UNIT_WORDS};
 use state::held::SUCCESSORS;
 
-// How a path ended, each time with the hops; or the refusal's number.
+// How a path ended, each time with the hops.
 #[derive(Clone, Copy)]
 pub enum Traced {
     // At the destination.
@@ -21,7 +23,6 @@ pub enum Traced {
     Stranded(usize),
     // Elsewhere, after as many hops as a path without a circle can have.
     Circling(usize),
-    Refused(u32),
 }
 
 // How many units a set has.
@@ -97,34 +98,28 @@ fn follow(
     }
 }
 
-// The lowest refusal of a trace, or 0.
-fn trace_refusal(
+// Whether a trace is refused.
+fn check_trace(
     words: &[u32],
     queues: &[u8],
     start: u32,
     destination: u32,
     choices: &[u8],
     path: &[u8],
-) -> u32
-    ensures { result ≡ trace_table_refusal words.now queues.now start destination choices.now path.now }
+) -> Result<(), Refusal>
+    ensures { refused_as result ≡ trace_table_refusal words.now queues.now start destination choices.now path.now }
 {
     if !fit::is_fit(words, queues) {
-        return 2;
+        return Err(Refusal::Unfit);
     }
-    if words[0] <= start {
-        return 3;
-    }
-    if words[0] <= destination {
-        return 3;
+    if words[0] <= start || words[0] <= destination {
+        return Err(Refusal::NoUnit);
     }
     let count = words[0] as usize;
-    if path.len() < count {
-        return 7;
+    if path.len() < count || choices.len() < count - 1 {
+        return Err(Refusal::Room);
     }
-    if choices.len() < count - 1 {
-        return 7;
-    }
-    0
+    Ok(())
 }
 
 pub fn trace(
@@ -134,15 +129,12 @@ pub fn trace(
     destination: u32,
     choices: &[u8],
     path: &mut [u8],
-) -> Traced
+) -> Result<Traced, Refusal>
     ensures answer { tracing_said result ≡ said (trace_table_refusal words.now queues.now start destination choices.now path.old) (trace_values words.now queues.now start destination choices.now) }
     ensures path { path.new ≡ path_after words.now queues.now start destination choices.now path.old }
 {
-    let number = trace_refusal(words, queues, start, destination, choices, path);
-    if number != 0 {
-        return Traced::Refused(number);
-    }
-    follow(words, start as usize, destination as usize, choices, path)
+    check_trace(words, queues, start, destination, choices, path)?;
+    Ok(follow(words, start as usize, destination as usize, choices, path))
 }
 
 // What answers of a trace that does not arrive begin at.
@@ -151,15 +143,15 @@ const STRANDED: u32 = 2 * ANSWERED;
 const CIRCLING: u32 = 3 * ANSWERED;
 
 // The number of an answer: 100 plus the hops for arrived, 200 plus the hops for stranded, 300 plus the hops for circling.
-fn number_of(answer: Traced) -> u32
+fn number_of(answer: Result<Traced, Refusal>) -> u32
     requires { trace_number answer ≤ highest_answer }
     ensures { result ≡ trace_number answer }
 {
     match answer {
-        Traced::Arrived(hops) => ANSWERED + hops as u32,
-        Traced::Stranded(hops) => STRANDED + hops as u32,
-        Traced::Circling(hops) => CIRCLING + hops as u32,
-        Traced::Refused(number) => number,
+        Ok(Traced::Arrived(hops)) => ANSWERED + hops as u32,
+        Ok(Traced::Stranded(hops)) => STRANDED + hops as u32,
+        Ok(Traced::Circling(hops)) => CIRCLING + hops as u32,
+        Err(refusal) => refusal.number(),
     }
 }
 
@@ -172,7 +164,7 @@ pub fn trace_number(
     choices: &[u8],
     path: &mut [u8],
 ) -> u32
-    ensures answer { result ≡ trace_number (trace_answer words.now queues.now start destination choices.now path.old) }
+    ensures answer { result ≡ trace_answer words.now queues.now start destination choices.now path.old }
     ensures path { path.new ≡ path_after words.now queues.now start destination choices.now path.old }
 {
     number_of(trace(words, queues, start, destination, choices, path))

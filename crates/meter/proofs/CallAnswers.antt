@@ -10,8 +10,12 @@ use mathlib.Core.Path.{◌≡◌, refl, sym, ap, ◌∙◌}
 use borrow.Author.Tests.{eq-eqb, ne_eqb, lt-ltb, le-ltb}
 use lib.Dec.{eqb}
 use lib.ListN.{length}
+use Rattle.std.specs.Prelude.{Result, Ok, Err, IfOk}
 use Rattle.ground.specs.Limits.{frame_limit, hop_limit}
 use Rattle.ground.specs.Refusal.{accepted, answer_base}
+use Rattle.ground.specs.Refused.{number_of}
+use Rattle.ground.specs.declared.refusals.Refusal.{Refusal}
+use Rattle.ground.proofs.Answers.{number_some}
 use Rattle.ground.proofs.Tests.{if_true, if_false}
 use Rattle.frames.specs.Meter.{Frame, no_frame, Meter, frame_at, free_place, with_frame}
 use Rattle.frames.specs.Meter.{counts_entered, counts_delivered, counts_dropped}
@@ -19,10 +23,14 @@ use Rattle.frames.specs.Meter.{MeterCall, enters, moves, drops, fate, new_frame,
 use Rattle.frames.specs.MeterTable.{delivered_at, meter_words, figure_from, laid_meter, meter_from, fate_number}
 use Rattle.frames.specs.MeterTable.{meter_refusal, meter_answer, meter_after}
 use Rattle.frames.proofs.LaidMeter.{frames_length, meter_reads_back, length_laid_meter}
+use Rattle.meter.specs.Fates.{fate_of, HeldInside}
 use Rattle.meter.specs.Reading.{as_read, frame_of, counts}
+use Rattle.meter.specs.declared.calls.Fate.{Fate}
+use Rattle.meter.specs.declared.calls.Fate.TheVariants.{Held, Delivered as FoundDelivered, Dropped as FoundDropped}
 use Rattle.meter.specs.declared.table.Frame.{Frame as FrameRead}
 use Rattle.meter.specs.declared.table.Sum.{Sum}
 use Rattle.meter.specs.declared.table.Sum.TheVariants.{Entered, Delivered, Dropped}
+use Rattle.meter.proofs.Refusals.{entered_inside, moved_inside}
 
 -- Counting keeps the places.
 counts_frames : (sum : Sum) (size : ℕ) (meter : Meter) → (counts sum size meter).frames ≡ meter.frames
@@ -60,40 +68,45 @@ pub still_delivered : (size : ℕ) (before after : List ℕ) → after ≡ laid_
 unfolding meter_from
 still_delivered size before after e = ap (λ (meter : Meter). meter.delivered) (counted_back Entered size before after e)
 
--- A place's answer is below the one past the last place's.
-pub place_answer : (place : ℕ) → place < frame_limit → answer_base + place < answer_base + frame_limit
-place_answer place l = omega arith
-
 module _ (words bytes meter : List ℕ) where
+  -- What a call promises of its answer and of the table that it leaves.
+  abbrev pub Answered : MeterCall → Result Fate Refusal → (after : List ℕ) → Type 0
+  Answered call said after =
+      record {
+        answer : fate_of said ≡ meter_answer words bytes meter call;
+        inside : IfOk said (λ found. HeldInside found);
+        meter : after ≡ meter_after words bytes meter call;
+      }
+
   -- A refusal is the answer, and changes nothing.
-  pub answers_refusal : (call : MeterCall) {number : ℕ} → number ≡ meter_refusal words bytes meter call → number ≢ accepted
-      → (number ≡ meter_answer words bytes meter call) × (meter ≡ meter_after words bytes meter call)
+  pub answers_refusal : (call : MeterCall) (refusal : Refusal) → number_of refusal ≡ meter_refusal words bytes meter call
+      → Answered call (Err refusal) meter
   unfolding meter_answer meter_after
-  answers_refusal call e d =
+  answers_refusal call refusal e =
       let refused : eqb (meter_refusal words bytes meter call) accepted ≡ false =
-      ne_eqb (meter_refusal words bytes meter call) accepted (λ none. d (e ∙ none)) in
-      (e ∙ sym (if_false _ _ _ refused), sym (if_false _ _ _ refused))
+      ne_eqb (meter_refusal words bytes meter call) accepted (λ none. number_some refusal (e ∙ none)) in
+      record { answer = e ∙ sym (if_false _ _ _ refused); inside = tt; meter = sym (if_false _ _ _ refused) }
 
   -- What is not refused answers what became of its frame, and leaves the rules' meter.
-  answers : (call : MeterCall) → meter_refusal words bytes meter call ≡ accepted → {number : ℕ} {after : List ℕ}
-      → number ≡ fate_number (fate (meter_from meter) call) → after ≡ laid_meter (metered (meter_from meter) call)
-      → (number ≡ meter_answer words bytes meter call) × (after ≡ meter_after words bytes meter call)
+  answers : (call : MeterCall) → meter_refusal words bytes meter call ≡ accepted → (found : Fate) {after : List ℕ}
+      → HeldInside found → fate_of (Ok found) ≡ fate_number (fate (meter_from meter) call)
+      → after ≡ laid_meter (metered (meter_from meter) call)
+      → Answered call (Ok found) after
   unfolding meter_answer meter_after
-  answers call none p q =
+  answers call none found inside p q =
       let free : eqb (meter_refusal words bytes meter call) accepted ≡ true =
       eq-eqb (meter_refusal words bytes meter call) accepted none in
-      (p ∙ sym (if_true _ _ _ free), q ∙ sym (if_true _ _ _ free))
+      record { answer = p ∙ sym (if_true _ _ _ free); inside = inside; meter = q ∙ sym (if_true _ _ _ free) }
 
   module _ (size unit destination : ℕ) (none : meter_refusal words bytes meter (enters size unit destination) ≡ accepted)
       (entered : List ℕ) (come : entered ≡ laid_meter (counts_entered size (meter_from meter))) where
     -- A frame that enters at its destination is delivered at once.
     pub entered_there : unit ≡ destination → (after : List ℕ) → after ≡ laid_meter (counts_delivered size (meter_from entered))
-        → (2 * answer_base ≡ meter_answer words bytes meter (enters size unit destination))
-        × (after ≡ meter_after words bytes meter (enters size unit destination))
+        → Answered (enters size unit destination) (Ok FoundDelivered) after
     unfolding fate metered
     entered_there same after e =
         let there = eq-eqb unit destination same in
-        answers (enters size unit destination) none
+        answers (enters size unit destination) none FoundDelivered tt
         (sym (ap fate_number (if_true _ _ _ there)))
         (e
         ∙ ap (λ (m : Meter). laid_meter (counts_delivered size m)) (counted_back Entered size meter entered come)
@@ -102,13 +115,12 @@ module _ (words bytes meter : List ℕ) where
     -- Else it stands at the lowest free place.
     pub entered_elsewhere : unit ≢ destination → (place : ℕ) → place ≡ free_place (meter_from meter) → (after : List ℕ)
         → after ≡ laid_meter (with_frame (meter_from entered) place (new_frame size unit destination))
-        → (answer_base + place ≡ meter_answer words bytes meter (enters size unit destination))
-        × (after ≡ meter_after words bytes meter (enters size unit destination))
+        → Answered (enters size unit destination) (Ok (Held place)) after
     unfolding fate metered
     entered_elsewhere other place free after e =
         let there = ne_eqb unit destination other in
         let frame = new_frame size unit destination in
-        answers (enters size unit destination) none
+        answers (enters size unit destination) none (Held place) (entered_inside words bytes meter size unit destination none free)
         (ap (λ n. answer_base + n) free ∙ sym (ap fate_number (if_false _ _ _ there)))
         (e
         ∙ ap (λ n. laid_meter (with_frame (meter_from entered) n frame)) free
@@ -124,21 +136,16 @@ module _ (words bytes meter : List ℕ) where
 
     -- A move, which leaves a table.
     module _ (unit : ℕ) (none : meter_refusal words bytes meter (moves place unit) ≡ accepted) (after : List ℕ) where
-      -- It answers a number and leaves that table.
-      abbrev Answered : (number : ℕ) → Type 0
-      Answered number =
-          (number ≡ meter_answer words bytes meter (moves place unit)) × (after ≡ meter_after words bytes meter (moves place unit))
-
       -- A frame that moves to its destination is delivered.
       pub moved_there : unit ≡ found.destination
           → after ≡ laid_meter (with_frame (counts_delivered found.size (meter_from meter)) place no_frame)
-          → Answered (2 * answer_base)
+          → Answered (moves place unit) (Ok FoundDelivered) after
       unfolding fate metered settled
       moved_there same e =
           let there = eq-eqb unit frame.destination (same ∙ ap (λ (r : FrameRead). r.destination) read) in
           let left =
           e ∙ ap (λ (r : FrameRead). laid_meter (with_frame (counts_delivered r.size (meter_from meter)) place no_frame)) read in
-          answers (moves place unit) none (sym (rw there)) (left ∙ sym (rw there))
+          answers (moves place unit) none FoundDelivered tt (sym (rw there)) (left ∙ sym (rw there))
 
       module _ (other : unit ≢ found.destination) where
         -- The test of the destination fails.
@@ -149,21 +156,21 @@ module _ (words bytes meter : List ℕ) where
         -- At its last hop it is dropped.
         pub moved_last : hop_limit ≤ found.hops + 1
             → after ≡ laid_meter (with_frame (counts_dropped found.size (meter_from meter)) place no_frame)
-            → Answered (3 * answer_base)
+            → Answered (moves place unit) (Ok FoundDropped) after
         unfolding fate metered settled
         moved_last h e =
             let hops : found.hops ≡ frame.hops = ap (λ (r : FrameRead). r.hops) read in
             let last = le-ltb (suc frame.hops) hop_limit (omega arith) in
             let left =
             e ∙ ap (λ (r : FrameRead). laid_meter (with_frame (counts_dropped r.size (meter_from meter)) place no_frame)) read in
-            answers (moves place unit) none (sym (rw (elsewhere, last))) (left ∙ sym (rw (elsewhere, last)))
+            answers (moves place unit) none FoundDropped tt (sym (rw (elsewhere, last))) (left ∙ sym (rw (elsewhere, last)))
 
         -- Else it stands at the unit, one hop further.
         pub moved_onward : found.hops + 1 < hop_limit
             → after
             ≡ laid_meter (with_frame (meter_from meter) place
             (record { size = found.size; unit = unit; destination = found.destination; hops = found.hops + 1 }))
-            → Answered (answer_base + place)
+            → Answered (moves place unit) (Ok (Held place)) after
         unfolding fate metered settled
         moved_onward h e =
             let hops : found.hops ≡ frame.hops = ap (λ (r : FrameRead). r.hops) read in
@@ -176,13 +183,13 @@ module _ (words bytes meter : List ℕ) where
             ∙ ap (λ n.
             laid_meter (with_frame (meter_from meter) place
             (record { size = frame.size; unit = unit; destination = frame.destination; hops = n }))) (add-one frame.hops) in
-            answers (moves place unit) none (sym (rw (elsewhere, onward))) (left ∙ sym (rw (elsewhere, onward)))
+            answers (moves place unit) none (Held place) (moved_inside words bytes meter place unit none) (sym (rw (elsewhere, onward))) (left ∙ sym (rw (elsewhere, onward)))
 
     -- A frame that is dropped.
     pub dropped_now : meter_refusal words bytes meter (drops place) ≡ accepted → (after : List ℕ)
         → after ≡ laid_meter (with_frame (counts_dropped found.size (meter_from meter)) place no_frame)
-        → (3 * answer_base ≡ meter_answer words bytes meter (drops place)) × (after ≡ meter_after words bytes meter (drops place))
+        → Answered (drops place) (Ok FoundDropped) after
     unfolding fate metered settled
     dropped_now none after e =
-        answers (drops place) none refl
+        answers (drops place) none FoundDropped tt refl
         (e ∙ ap (λ (r : FrameRead). laid_meter (with_frame (counts_dropped r.size (meter_from meter)) place no_frame)) read)

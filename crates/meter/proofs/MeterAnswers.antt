@@ -7,12 +7,13 @@ use mathlib.Core.Logic.{◌≢◌}
 use mathlib.Core.Path.{◌≡◌, refl, sym, ap, ◌∙◌}
 use borrow.Author.Tests.{ltb-true, leb-true, eq-eqb, ne_eqb}
 use lib.Dec.{eqb, ltb, leb}
-use Rattle.std.specs.Prelude.{if◌then◌else◌}
+use Rattle.std.specs.Prelude.{Some, None, if◌then◌else◌}
 use Rattle.ground.specs.Limits.{unit_limit, frame_limit, highest_size, hop_limit, entered_limit}
 use Rattle.ground.specs.Refusal.{answer_base}
 use Rattle.ground.specs.Rows.{at}
 use Rattle.ground.proofs.Choices.{by_choice}
 use Rattle.ground.proofs.Lists.{parts}
+use Rattle.ground.proofs.Tests.{if_true}
 use Rattle.ground.proofs.Totals.{total_most}
 use Rattle.rules.specs.Hub.{hub_answer}
 use Rattle.fitness.proofs.SuccessorSets.{fit_sized}
@@ -20,7 +21,7 @@ use Rattle.frames.specs.Meter.{Frame, is_held, frame_at, fit_frame}
 use Rattle.frames.specs.MeterTable.{meter_from, fit_metered, figure_answer, frame_refusal}
 use Rattle.frames.specs.MeterTable.{entered_answer, delivered_answer, dropped_answer, held_answer, frames_answer}
 use Rattle.frames.specs.MeterTable.{size_answer, unit_answer, destination_answer, hops_answer}
-use Rattle.meter.specs.Reading.{as_read, frame_of, frame_in, figure_of, figure_in, figure_asked, field_of, field_asked}
+use Rattle.meter.specs.Reading.{as_read, frame_of, held_in, figure_of, figure_in, figure_asked, field_of, field_asked}
 use Rattle.meter.specs.declared.questions.Field.{Field}
 use Rattle.meter.specs.declared.questions.Field.TheVariants.{Size, Unit, Destination, Hops}
 use Rattle.meter.specs.declared.table.Figure.{Figure}
@@ -28,10 +29,10 @@ use Rattle.meter.specs.declared.table.Figure.TheVariants.{Entered, Delivered, Dr
 use Rattle.meter.specs.declared.table.Frame.{Frame as FrameRead}
 use Rattle.meter.proofs.AddsUp.{each_most}
 use Rattle.meter.proofs.MeterFit.{Fitted, metered_network, metered_table}
-use Rattle.meter.proofs.ReadFrames.{frame_there, figure_there}
+use Rattle.meter.proofs.ReadFrames.{held_there, free_there, figure_there}
 
 -- A number of a fit frame is at most the largest size.
-field_most : (n : ℕ) (frame : Frame) → frame.size ≢ 0 → n ≤ unit_limit → fit_frame n frame ≡ true
+field_most : (n : ℕ) (frame : Frame) → is_held frame ≡ true → n ≤ unit_limit → fit_frame n frame ≡ true
     → (which : Field) → field_of which frame ≤ highest_size
 unfolding fit_frame
 field_most n frame held count fits which = most which
@@ -42,7 +43,7 @@ field_most n frame held count fits which = most which
         && not (eqb frame.unit frame.destination)
         && ltb frame.hops hop_limit
         ≡ true
-    tests = rw (ne_eqb frame.size 0 held) at fits
+    tests = sym (if_true (is_held frame) _ _ held) ∙ fits
 
     most : (which : Field) → field_of which frame ≤ highest_size
     most Size = leb-true frame.size highest_size (search (parts, tests))
@@ -109,32 +110,27 @@ module _ (words bytes meter : List ℕ) where
         ap (λ (n : ℕ). answer_base + n) (e ∙ figure_there meter fitted.long which)
         ∙ sym (figure_alike which ∙ rw fit)
 
-    module _ (place : ℕ) {frame : FrameRead} (read : frame ≡ as_read (frame_in meter place)) where
-      -- The frame that was read is the meter's.
-      held_there : frame_of frame ≡ frame_at (meter_from meter) place
-      held_there = ap frame_of read ∙ frame_there meter place fitted.long
-
+    module _ (place : ℕ) where
       -- A place that is free refuses every question.
-      pub field_free : (which : Field) → frame.size ≡ 0 → 16 ≡ field_asked which words bytes meter place
-      field_free which e =
-          let free : eqb (frame_at (meter_from meter) place).size 0 ≡ true =
-          eq-eqb _ 0 (sym (ap (λ (f : Frame). f.size) held_there) ∙ e) in
-          sym (field_alike which place ∙ rw (fit, free))
+      pub field_free : (which : Field) → None ≡ held_in meter place → 16 ≡ field_asked which words bytes meter place
+      field_free which e = sym (field_alike which place ∙ rw (fit, free_there meter place fitted.long e))
 
-      module _ (which : Field) {value : ℕ} (found : value ≡ field_of which (frame_of frame)) (held : frame.size ≢ 0) where
-        -- A place that holds a frame.
-        not_free : eqb (frame_at (meter_from meter) place).size 0 ≡ false
-        not_free = ne_eqb _ 0 (λ e. held (ap (λ (f : Frame). f.size) held_there ∙ e))
+      module _ (frame : FrameRead) (found : Some frame ≡ held_in meter place) (which : Field) {value : ℕ}
+          (read : value ≡ field_of which (frame_of frame)) where
+        -- A place that holds a frame: it is the meter's.
+        there : (is_held (frame_at (meter_from meter) place) ≡ true) × (frame ≡ as_read (frame_at (meter_from meter) place))
+        there = held_there meter place fitted.long frame found
+
+        -- The number that was read is the meter's frame's.
+        read_there : value ≡ field_of which (frame_at (meter_from meter) place)
+        read_there = read ∙ ap (λ (f : FrameRead). field_of which (frame_of f)) there.1
 
         -- No number of it is above the largest size.
         pub field_small : value ≤ highest_size
         field_small =
             let count = (fit_sized words bytes (metered_network words bytes meter fit)).high in
-            let fits = ap (fit_frame (at words 0)) held_there ∙ fitted.each place in
-            omega (arith, field_most (at words 0) (frame_of frame) held count fits which)
+            omega (arith, read_there, field_most (at words 0) (frame_at (meter_from meter) place) there.0 count (fitted.each place) which)
 
         -- It is answered.
         pub field_answered : answer_base + value ≡ field_asked which words bytes meter place
-        field_answered =
-            ap (λ (n : ℕ). answer_base + n) (found ∙ ap (field_of which) held_there)
-            ∙ sym (field_alike which place ∙ rw (fit, not_free))
+        field_answered = ap (λ (n : ℕ). answer_base + n) read_there ∙ sym (field_alike which place ∙ rw (fit, there.0))

@@ -1,24 +1,28 @@
 -- Single figures and places read from a meter's table and laid into it: what the code finds there is what the table's meter has.
 use Prim.Native.Nat.{ℕ, ◌+◌, ◌≤◌, ◌<◌}
 use native.Mathlib.Omega.{arith}
+use mathlib.Core.Bool.{not}
 use mathlib.Core.List.{List}
 use mathlib.Core.Logic.{◌≢◌}
 use mathlib.Core.Path.{◌≡◌, sym, ap, ◌∙◌}
 use borrow.Author.Tests.{eq-eqb, ne_eqb}
 use lib.ListN.{length, get_or-eq_default}
 use lib.Seq.{paste}
+use Rattle.std.specs.Prelude.{true, false, Some, None, is_some, is_none}
+use Rattle.std.proofs.lemmas.Option.{none-some, cond_some}
 use Rattle.ground.specs.Limits.{frame_limit}
 use Rattle.ground.specs.Rows.{at, total}
 use Rattle.ground.proofs.Lists.{Under}
-use Rattle.ground.proofs.Tests.{if_true, if_false}
+use Rattle.ground.proofs.Cases.{by_test}
+use Rattle.ground.proofs.Tests.{not_yes, if_true, if_false}
 use Rattle.ground.proofs.Totals.{total_more}
 use Rattle.slices.specs.Slices.{laid_over}
 use Rattle.slices.proofs.Overlaid.{laid_fits}
-use Rattle.frames.specs.Meter.{no_frame, frame_at, with_frame}
+use Rattle.frames.specs.Meter.{no_frame, is_held, frame_at, with_frame}
 use Rattle.frames.specs.MeterTable.{place_at, meter_words, figure_base, laid_figure, figure_from, laid_frame, frame_from}
 use Rattle.frames.specs.MeterTable.{laid_meter, meter_from}
 use Rattle.frames.proofs.LaidMeter.{frames_length, frame_in_table, entered_laid, delivered_laid, dropped_laid, frame_laid}
-use Rattle.meter.specs.Reading.{as_read, frame_of, frame_in, figure_of, figure_in, start_of, counts}
+use Rattle.meter.specs.Reading.{as_read, frame_of, frame_in, held_in, figure_of, figure_in, start_of, counts}
 use Rattle.meter.specs.declared.table.Figure.{Figure}
 use Rattle.meter.specs.declared.table.Frame.{Frame}
 use Rattle.meter.specs.declared.table.Sum.{Sum}
@@ -47,6 +51,32 @@ module _ (meter : List ℕ) (place : ℕ) where
     no_place h =
         sym (frame_there
         ∙ get_or-eq_default (meter_from meter).frames no_frame {n = place} (omega (arith, frames_length meter)))
+
+    -- So is the frame that is found there,
+    pub held_there : (found : Frame) → Some found ≡ held_in meter place
+        → (is_held (frame_at (meter_from meter) place) ≡ true) × (found ≡ as_read (frame_at (meter_from meter) place))
+    held_there found e =
+        let told = cond_some (is_held (frame_in meter place)) (as_read (frame_in meter place)) found (sym e) in
+        (ap is_held (sym frame_there) ∙ told.0, sym told.1 ∙ ap as_read frame_there)
+
+    -- and where none is found, there is none.
+    pub free_there : None ≡ held_in meter place → is_held (frame_at (meter_from meter) place) ≡ false
+    free_there e =
+        ap is_held (sym frame_there)
+        ∙ not_yes (is_held (frame_in meter place)) (λ t. none-some _ (e ∙ if_true _ _ _ t))
+
+    -- Which of both it is.
+    pub none_there : is_none (held_in meter place) ≡ not (is_held (frame_at (meter_from meter) place))
+    none_there =
+        by_test (is_held (frame_in meter place))
+        (λ t. rw t (sym (ap (λ f. not (is_held f)) (sym frame_there) ∙ rw t)))
+        (λ t. rw t (sym (ap (λ f. not (is_held f)) (sym frame_there) ∙ rw t)))
+
+    pub found_there : is_some (held_in meter place) ≡ is_held (frame_at (meter_from meter) place)
+    found_there =
+        by_test (is_held (frame_in meter place))
+        (λ t. rw t (sym (ap is_held (sym frame_there) ∙ t)))
+        (λ t. rw t (sym (ap is_held (sym frame_there) ∙ t)))
 
     -- The four numbers at a place are read.
     pub frame_read : place < frame_limit → as_read (frame_from meter (place_at place)) ≡ as_read (frame_in meter place)

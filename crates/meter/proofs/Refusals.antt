@@ -6,16 +6,21 @@ use native.Mathlib.Omega.{arith}
 use mathlib.Core.Bool.{true, false, not, ◌&&◌}
 use mathlib.Core.List.{List}
 use mathlib.Core.Logic.{◌≢◌, ⊎_elim}
-use mathlib.Core.Path.{◌≡◌, sym, ap, ◌∙◌}
+use mathlib.Core.Path.{◌≡◌, sym, ap, subst, ◌∙◌}
 use borrow.Author.Tests.{ltb-true, eqb-false, not-false, eq-eqb, ne_eqb, lt-ltb, le-ltb}
 use lib.Dec.{eqb, ltb}
 use lib.ListN.{length, get_or-eq_default}
+use Rattle.std.specs.Prelude.{IfOk}
+use Rattle.std.specs.Option.{ok_or}
 use Rattle.ground.specs.Limits.{frame_limit, hop_limit, entered_limit, legal_size}
 use Rattle.ground.specs.Refusal.{accepted, ◌gives◌, ◌otherwise◌}
 use Rattle.ground.specs.Rows.{at, is_in}
 use Rattle.ground.proofs.Lists.{parts}
 use Rattle.ground.proofs.Refusal.{gives_none, otherwise_none}
 use Rattle.ground.proofs.Rows.{lowest_le}
+use Rattle.ground.specs.Refused.{refused_as}
+use Rattle.ground.specs.declared.refusals.Refusal.TheVariants.{Frame as NoFrame}
+use Rattle.ground.proofs.Cases.{by_test}
 use Rattle.ground.proofs.Tests.{not_both, less_or_not, if_true}
 use Rattle.rules.specs.Network.{is_successor_in}
 use Rattle.rules.specs.Tables.{network_from, fit_tables}
@@ -25,11 +30,12 @@ use Rattle.frames.specs.MeterTable.{meter_words, figure_from, meter_from, fit_me
 use Rattle.frames.proofs.FreePlaces.{none_free}
 use Rattle.frames.proofs.LaidMeter.{frames_length}
 use Rattle.fitness.proofs.SuccessorSets.{Sized, fit_sized, set_at, successor_in_place}
-use Rattle.meter.specs.Reading.{start_of}
+use Rattle.meter.specs.Reading.{as_read, frame_in, held_in, start_of}
 use Rattle.meter.specs.declared.table.Sum.{Sum}
 use Rattle.meter.specs.declared.table.Sum.TheVariants.{Entered, Delivered, Dropped}
 use Rattle.meter.proofs.AddsUp.{each_most}
 use Rattle.meter.proofs.MeterFit.{Fitted, metered_network, metered_table}
+use Rattle.meter.proofs.ReadFrames.{frame_there}
 
 -- A figure within its limit and a number of 32 bits make a number of 64 bits.
 pub bytes_fit : (figure size : ℕ) → figure ≤ entered_limit → size < 4294967296 → figure + size < 18446744073709551616
@@ -161,6 +167,15 @@ module _ (words bytes meter : List ℕ) where
       let held = is_held (frame_at (meter_from meter) place) in
       (none.0, not-false held (gives_none (not held) 15 none.1))
 
+  -- The place of a frame that may enter or move is one of the table's.
+  pub entered_inside : (size unit destination : ℕ) → meter_refusal words bytes meter (enters size unit destination) ≡ accepted
+      → {place : ℕ} → place ≡ free_place (meter_from meter) → place < frame_limit
+  entered_inside size unit destination e found =
+      subst (λ n. n < frame_limit) (sym found) (enters_freely size unit destination e).1
+
+  pub moved_inside : (place unit : ℕ) → meter_refusal words bytes meter (moves place unit) ≡ accepted → place < frame_limit
+  moved_inside place unit e = held_inside meter place (moves_held place unit e).1
+
   module _ (fit : fit_metered words bytes meter ≡ true) where
     -- A frame that enters, and its refusals by the tests before each.
     module _ (size unit destination : ℕ) where
@@ -281,14 +296,14 @@ module _ (words bytes meter : List ℕ) where
           unfolding meter_refusal meter_call_refusal
           may_move e = sym (rw (fit, below, held, sym told ∙ e))
 
-    -- A frame that is dropped.
-    module _ (place : ℕ) where
-      -- 16, where the place holds none.
-      pub dropped_unheld : is_held (frame_at (meter_from meter) place) ≡ false → 16 ≡ meter_refusal words bytes meter (drops place)
-      unfolding meter_refusal meter_call_refusal
-      dropped_unheld e = sym (rw (fit, e))
-
-      -- Else nothing.
-      pub may_drop : is_held (frame_at (meter_from meter) place) ≡ true → 0 ≡ meter_refusal words bytes meter (drops place)
-      unfolding meter_refusal meter_call_refusal
-      may_drop e = sym (rw (fit, e))
+    -- A frame that is dropped: 16, where the place holds none; else nothing, and it is the one there.
+    pub drop_told : (place : ℕ) → record {
+          refusal : refused_as (ok_or (held_in meter place) NoFrame) ≡ meter_refusal words bytes meter (drops place);
+          frame : IfOk (ok_or (held_in meter place) NoFrame) (λ frame. frame ≡ as_read (frame_at (meter_from meter) place));
+        }
+    unfolding meter_refusal meter_call_refusal
+    drop_told place =
+        let there = frame_there meter place (fit-metered words bytes meter fit).long in
+        by_test (is_held (frame_in meter place))
+        (λ held. rw held (record { refusal = sym (rw (fit, ← there, held)); frame = ap as_read there }))
+        (λ free. rw free (record { refusal = sym (rw (fit, ← there, free)); frame = tt }))

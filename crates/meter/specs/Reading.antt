@@ -1,8 +1,8 @@
 -- Order: single figures and places read from a meter's table and counted in it, and questions by their names
 -- (proofs/ReadFrames.antt, proofs/MeterAnswers.antt).
-use Rattle.std.specs.Prelude.{ℕ, not, List, eqb, length}
+use Rattle.std.specs.Prelude.{ℕ, List, Option, Some, None, eqb, length}
 use Rattle.std.specs.Prelude.{if◌then◌else◌}
-use Rattle.frames.specs.Meter.{Frame, no_frame, Meter, frame_at, held_bytes, held_frames}
+use Rattle.frames.specs.Meter.{Frame, no_frame, is_held, Meter, frame_at, held_bytes, held_frames}
 use Rattle.frames.specs.Meter.{counts_entered, counts_delivered, counts_dropped}
 use Rattle.frames.specs.MeterTable.{entered_at, delivered_at, dropped_at, meter_words, meter_from}
 use Rattle.frames.specs.MeterTable.{entered_answer, delivered_answer, dropped_answer, held_answer, frames_answer}
@@ -29,9 +29,9 @@ frame_of frame =
 unfoldable pub frame_in : (meter : List ℕ) (place : ℕ) → Frame
 frame_in meter place = if eqb (length meter) meter_words then frame_at (meter_from meter) place else no_frame
 
--- How a place counts among those held.
-abbrev pub held_as : (size : ℕ) → ℕ
-held_as size = if not (eqb size 0) then 1 else 0
+-- The frame that is held there, if one is.
+abbrev pub held_in : (meter : List ℕ) (place : ℕ) → Option FrameRead
+held_in meter place = if is_held (frame_in meter place) then Some (as_read (frame_in meter place)) else None
 
 -- A figure of a meter, and of a table.
 abbrev pub figure_of : Figure → Meter → ℕ

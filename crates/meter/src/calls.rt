@@ -1,35 +1,41 @@
-// The calls that change a meter. An accepted one answers what became of the frame: 100 plus its place where it is held, 200 where
-// it is delivered, 300 where it is dropped. A refusal changes nothing.
-ghost use Rattle.std.specs.Prelude.{◌≡◌, ◌≤◌, ◌<◌, length};
+// The calls that change a meter. An accepted one answers what became of the frame. A refusal changes nothing.
+ghost use Rattle.std.specs.Prelude.{◌≡◌, ◌≤◌, ◌<◌, IfOk, IfSome, length, unwrap_or};
 ghost use Rattle.ground.specs.Limits.{unit_limit, frame_limit, entered_limit};
+ghost use Rattle.ground.specs.Refused.{refused_as, done_of};
 ghost use Rattle.ground.specs.Rows.{is_in};
 ghost use Rattle.rules.specs.Hub.{hub_answer};
-ghost use Rattle.frames.specs.Meter.{no_frame, free_place, with_frame, enters, moves, drops};
+ghost use Rattle.frames.specs.Meter.{no_frame, frame_at, free_place, with_frame, enters, moves, drops};
 ghost use Rattle.frames.specs.MeterTable.{meter_words, figure_from, laid_meter, meter_from, meter_refusal, meter_answer, meter_after, fresh_meter_refusal, fresh_meter_table};
-ghost use Rattle.meter.specs.Reading.{start_of, counts};
+ghost use Rattle.meter.specs.Fates.{fate_of, HeldInside};
+ghost use Rattle.meter.specs.Reading.{as_read, start_of, counts};
 
 use crate::table::{Figure, Frame, Sum};
 use crate::{fit, table};
+use ground::refusals::Refusal;
 use ground::{ANSWERED, ENTERED_LIMIT, FRAMES, HOPS, METER_WORDS, UNIT_WORDS};
 use state::held::SUCCESSORS;
 
-// The answers for a frame that is delivered, and for one that is dropped.
+// What became of a frame.
+#[derive(Clone, Copy, Debug, PartialEq, Eq)]
+pub enum Fate {
+    // It is held at this place.
+    Held(u32),
+    Delivered,
+    Dropped,
+}
+
+// The numbers of the answers for a frame that is delivered, and for one that is dropped.
 pub const DELIVERED: u32 = 2 * ANSWERED;
 
 pub const DROPPED: u32 = 3 * ANSWERED;
 
-// The lowest free place, or FRAMES.
-fn free_place(meter: &[u32]) -> usize
+// The lowest free place.
+fn free_place(meter: &[u32]) -> Option<usize>
     requires { length meter.now ≡ meter_words }
-    ensures { result ≡ free_place (meter_from meter.now) }
+    ensures lowest { unwrap_or result frame_limit ≡ free_place (meter_from meter.now) }
+    ensures inside { IfSome result (λ place. place < frame_limit) }
 {
-    for place in 0..FRAMES {
-        let frame = table::frame_in(meter, place);
-        if frame.size == 0 {
-            return place;
-        }
-    }
-    FRAMES
+    (0..FRAMES).find(|place| table::held_at(meter, *place).is_none())
 }
 
 // Whether a unit is in a set.
@@ -40,70 +46,67 @@ fn is_in(set: u32, k: u32) -> bool
     (set >> k) % 2 == 1
 }
 
-// The lowest refusal of each call, or 0.
-fn enter_refusal(
+// The lowest refusal of each call, or what the call then needs: the place that is free, the frame that is held.
+fn check_enter(
     words: &[u32],
     queues: &[u8],
     meter: &[u32],
     size: u32,
     unit: u32,
     destination: u32,
-) -> u32
-    ensures { result ≡ meter_refusal words.now queues.now meter.now (enters size unit destination) }
+) -> Result<usize, Refusal>
+    ensures refusal { refused_as result ≡ meter_refusal words.now queues.now meter.now (enters size unit destination) }
+    ensures place { IfOk result (λ place. place ≡ free_place (meter_from meter.now)) }
 {
     if !fit::is_fit(words, queues, meter) {
-        return 2;
+        return Err(Refusal::Unfit);
     }
-    if words[0] <= unit {
-        return 3;
+    if words[0] <= unit || words[0] <= destination {
+        return Err(Refusal::NoUnit);
     }
-    if words[0] <= destination {
-        return 3;
-    }
-    if free_place(meter) == FRAMES {
-        return 14;
-    }
-    if ENTERED_LIMIT < table::figure_in(meter, Figure::Entered) + size as u64 {
-        return 15;
+    let place = free_place(meter).ok_or(Refusal::MeterFull)?;
+    if ENTERED_LIMIT < table::figure_in(meter, Figure::Entered) + u64::from(size) {
+        return Err(Refusal::TooManyBytes);
     }
     if !fit::is_legal_size(size) {
-        return 16;
+        return Err(Refusal::Frame);
     }
-    0
+    Ok(place)
 }
 
-fn move_refusal(words: &[u32], queues: &[u8], meter: &[u32], place: u32, unit: u32) -> u32
-    ensures { result ≡ meter_refusal words.now queues.now meter.now (moves place unit) }
+fn check_move(
+    words: &[u32],
+    queues: &[u8],
+    meter: &[u32],
+    place: u32,
+    unit: u32,
+) -> Result<Frame, Refusal>
+    ensures refusal { refused_as result ≡ meter_refusal words.now queues.now meter.now (moves place unit) }
+    ensures frame { IfOk result (λ frame. frame ≡ as_read (frame_at (meter_from meter.now) place)) }
 {
     if !fit::is_fit(words, queues, meter) {
-        return 2;
+        return Err(Refusal::Unfit);
     }
     if words[0] <= unit {
-        return 3;
+        return Err(Refusal::NoUnit);
     }
-    let frame = table::frame_in(meter, place as usize);
-    if frame.size == 0 {
-        return 16;
-    }
+    let frame = table::held_at(meter, place as usize).ok_or(Refusal::Frame)?;
     let from = frame.unit as usize * UNIT_WORDS;
     let set = words[from + (SUCCESSORS + frame.destination as usize)];
     if !is_in(set, unit) {
-        return 16;
+        return Err(Refusal::Frame);
     }
-    0
+    Ok(frame)
 }
 
-fn drop_refusal(words: &[u32], queues: &[u8], meter: &[u32], place: u32) -> u32
-    ensures { result ≡ meter_refusal words.now queues.now meter.now (drops place) }
+fn check_drop(words: &[u32], queues: &[u8], meter: &[u32], place: u32) -> Result<Frame, Refusal>
+    ensures refusal { refused_as result ≡ meter_refusal words.now queues.now meter.now (drops place) }
+    ensures frame { IfOk result (λ frame. frame ≡ as_read (frame_at (meter_from meter.now) place)) }
 {
     if !fit::is_fit(words, queues, meter) {
-        return 2;
+        return Err(Refusal::Unfit);
     }
-    let frame = table::frame_in(meter, place as usize);
-    if frame.size == 0 {
-        return 16;
-    }
-    0
+    table::held_at(meter, place as usize).ok_or(Refusal::Frame)
 }
 
 // The frame at a place ends: its bytes are counted, and the place is free.
@@ -116,15 +119,15 @@ fn end(meter: &mut [u32], place: usize, sum: Sum, size: u32)
 }
 
 // A meter that holds nothing. The length is all that is tested.
-pub fn fresh(meter: &mut [u32]) -> u32
-    ensures answer { result ≡ hub_answer (fresh_meter_refusal meter.old) 0 }
+pub fn fresh(meter: &mut [u32]) -> Result<(), Refusal>
+    ensures answer { done_of result ≡ hub_answer (fresh_meter_refusal meter.old) 0 }
     ensures meter { meter.new ≡ fresh_meter_table meter.old }
 {
     if meter.len() != METER_WORDS {
-        return 2;
+        return Err(Refusal::Unfit);
     }
     slices::clear(meter);
-    ANSWERED
+    Ok(())
 }
 
 // A frame enters at a unit.
@@ -135,19 +138,16 @@ pub fn enter(
     size: u32,
     unit: u32,
     destination: u32,
-) -> u32
-    ensures answer { result ≡ meter_answer words.now queues.now meter.old (enters size unit destination) }
+) -> Result<Fate, Refusal>
+    ensures answer { fate_of result ≡ meter_answer words.now queues.now meter.old (enters size unit destination) }
+    ensures inside { IfOk result (λ fate. HeldInside fate) }
     ensures meter { meter.new ≡ meter_after words.now queues.now meter.old (enters size unit destination) }
 {
-    let number = enter_refusal(words, queues, meter, size, unit, destination);
-    if number != 0 {
-        return number;
-    }
-    let place = free_place(meter);
+    let place = check_enter(words, queues, meter, size, unit, destination)?;
     table::count_bytes(meter, Sum::Entered, size);
     if unit == destination {
         table::count_bytes(meter, Sum::Delivered, size);
-        return DELIVERED;
+        return Ok(Fate::Delivered);
     }
     let frame = Frame {
         size,
@@ -156,49 +156,52 @@ pub fn enter(
         hops: 0,
     };
     table::put_frame(meter, place, frame);
-    ANSWERED + place as u32
+    Ok(Fate::Held(place as u32))
 }
 
 // A frame moves one hop to a successor.
-pub fn move_on(words: &[u32], queues: &[u8], meter: &mut [u32], place: u32, unit: u32) -> u32
-    ensures answer { result ≡ meter_answer words.now queues.now meter.old (moves place unit) }
+pub fn move_on(
+    words: &[u32],
+    queues: &[u8],
+    meter: &mut [u32],
+    place: u32,
+    unit: u32,
+) -> Result<Fate, Refusal>
+    ensures answer { fate_of result ≡ meter_answer words.now queues.now meter.old (moves place unit) }
+    ensures inside { IfOk result (λ fate. HeldInside fate) }
     ensures meter { meter.new ≡ meter_after words.now queues.now meter.old (moves place unit) }
 {
-    let number = move_refusal(words, queues, meter, place, unit);
-    if number != 0 {
-        return number;
-    }
+    let frame = check_move(words, queues, meter, place, unit)?;
     let at = place as usize;
-    let frame = table::frame_in(meter, at);
     if unit == frame.destination {
         end(meter, at, Sum::Delivered, frame.size);
-        return DELIVERED;
+        return Ok(Fate::Delivered);
     }
     if HOPS <= frame.hops + 1 {
         end(meter, at, Sum::Dropped, frame.size);
-        return DROPPED;
+        return Ok(Fate::Dropped);
     }
     let moved = Frame {
-        size: frame.size,
         unit,
-        destination: frame.destination,
         hops: frame.hops + 1,
+        ..frame
     };
     table::put_frame(meter, at, moved);
-    ANSWERED + place
+    Ok(Fate::Held(place))
 }
 
 // A frame is dropped.
-pub fn drop_frame(words: &[u32], queues: &[u8], meter: &mut [u32], place: u32) -> u32
-    ensures answer { result ≡ meter_answer words.now queues.now meter.old (drops place) }
+pub fn drop_frame(
+    words: &[u32],
+    queues: &[u8],
+    meter: &mut [u32],
+    place: u32,
+) -> Result<Fate, Refusal>
+    ensures answer { fate_of result ≡ meter_answer words.now queues.now meter.old (drops place) }
+    ensures inside { IfOk result (λ fate. HeldInside fate) }
     ensures meter { meter.new ≡ meter_after words.now queues.now meter.old (drops place) }
 {
-    let number = drop_refusal(words, queues, meter, place);
-    if number != 0 {
-        return number;
-    }
-    let at = place as usize;
-    let frame = table::frame_in(meter, at);
-    end(meter, at, Sum::Dropped, frame.size);
-    DROPPED
+    let frame = check_drop(words, queues, meter, place)?;
+    end(meter, place as usize, Sum::Dropped, frame.size);
+    Ok(Fate::Dropped)
 }

@@ -1,11 +1,12 @@
-// Questions to a meter. They change nothing: 2 where a table is not fit, 16 for a frame that is not held, else 100 plus the
-// value.
-ghost use Rattle.std.specs.Prelude.{◌≡◌};
+// Questions to a meter. They change nothing, and are refused where a table is not fit and for a frame that is not held.
+ghost use Rattle.std.specs.Prelude.{◌≡◌, ◌≤◌, IfOk};
+ghost use Rattle.ground.specs.Limits.{highest_size, entered_limit};
+ghost use Rattle.ground.specs.Refused.{answer_of};
 ghost use Rattle.meter.specs.Reading.{frame_of, field_of, figure_asked, field_asked};
 
 use crate::table::{Figure, Frame};
 use crate::{fit, table};
-use ground::ANSWERED;
+use ground::refusals::Refusal;
 
 // What can be asked of one frame.
 #[derive(Clone, Copy)]
@@ -17,13 +18,19 @@ pub enum Field {
 }
 
 // A figure of the whole meter, which may pass 32 bits.
-pub fn ask_figure(words: &[u32], queues: &[u8], meter: &[u32], which: Figure) -> u64
-    ensures { result ≡ figure_asked which words.now queues.now meter.now }
+pub fn ask_figure(
+    words: &[u32],
+    queues: &[u8],
+    meter: &[u32],
+    which: Figure,
+) -> Result<u64, Refusal>
+    ensures answer { answer_of result ≡ figure_asked which words.now queues.now meter.now }
+    ensures small { IfOk result (λ figure. figure ≤ entered_limit) }
 {
     if !fit::is_fit(words, queues, meter) {
-        return 2;
+        return Err(Refusal::Unfit);
     }
-    ANSWERED as u64 + table::figure_in(meter, which)
+    Ok(table::figure_in(meter, which))
 }
 
 fn field_of(frame: Frame, field: Field) -> u32
@@ -38,15 +45,19 @@ fn field_of(frame: Frame, field: Field) -> u32
 }
 
 // A number of one frame that is held.
-pub fn ask_field(words: &[u32], queues: &[u8], meter: &[u32], place: u32, which: Field) -> u32
-    ensures { result ≡ field_asked which words.now queues.now meter.now place }
+pub fn ask_field(
+    words: &[u32],
+    queues: &[u8],
+    meter: &[u32],
+    place: u32,
+    which: Field,
+) -> Result<u32, Refusal>
+    ensures answer { answer_of result ≡ field_asked which words.now queues.now meter.now place }
+    ensures small { IfOk result (λ field. field ≤ highest_size) }
 {
     if !fit::is_fit(words, queues, meter) {
-        return 2;
+        return Err(Refusal::Unfit);
     }
-    let frame = table::frame_in(meter, place as usize);
-    if frame.size == 0 {
-        return 16;
-    }
-    ANSWERED + field_of(frame, which)
+    let frame = table::held_at(meter, place as usize).ok_or(Refusal::Frame)?;
+    Ok(field_of(frame, which))
 }

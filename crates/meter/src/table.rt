@@ -4,7 +4,7 @@ ghost use Rattle.std.specs.Prelude.{◌≡◌, ◌+◌, ◌≤◌, ◌<◌, leng
 ghost use Rattle.ground.specs.Limits.{frame_limit, entered_limit};
 ghost use Rattle.frames.specs.Meter.{no_frame, held_bytes, held_frames, with_frame};
 ghost use Rattle.frames.specs.MeterTable.{meter_words, figure_from, laid_meter, meter_from};
-ghost use Rattle.meter.specs.Reading.{as_read, frame_of, frame_in, held_as, figure_in, start_of, counts};
+ghost use Rattle.meter.specs.Reading.{as_read, frame_of, frame_in, held_in, figure_in, start_of, counts};
 
 use ground::{FRAMES, METER_WORDS};
 
@@ -74,23 +74,14 @@ fn held_bytes(meter: &[u32]) -> u64
     bytes
 }
 
-// 1 for a place that holds a frame, 0 for a free one.
-fn one_if_held(size: u32) -> u64
-    ensures { (result ≤ 1) × (result ≡ held_as size) }
-{
-    if size == 0 { 0 } else { 1 }
-}
-
 // The number of frames held.
 fn held_frames(meter: &[u32]) -> u64
     requires { length meter.now ≡ meter_words }
     ensures { result ≡ held_frames (meter_from meter.now) }
 {
-    let mut frames: u64 = 0;
-    for place in 0..FRAMES {
-        frames += one_if_held(meter[PLACES + place * WIDTH]);
-    }
-    frames
+    (0..FRAMES)
+        .filter(|place| held_at(meter, *place).is_some())
+        .count() as u64
 }
 
 // A figure, or 0 where the table is none.
@@ -126,6 +117,14 @@ pub fn frame_in(meter: &[u32], place: usize) -> Frame
         destination: meter[from + 2],
         hops: meter[from + 3],
     }
+}
+
+// The frame that is held at a place: none where it is free, where there is no such place, and where the table is none.
+pub fn held_at(meter: &[u32], place: usize) -> Option<Frame>
+    ensures { result ≡ held_in meter.now place }
+{
+    let frame = frame_in(meter, place);
+    if frame.size == 0 { None } else { Some(frame) }
 }
 
 // What stands at a free place.

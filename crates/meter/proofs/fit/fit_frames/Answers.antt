@@ -1,7 +1,7 @@
 -- `meter::fit::fit_frames` meets its contract, by what `all` finds over a range.
 use Rattle.std.proofs.Common.{rules, tests}
 use Rattle.ground.specs.Limits.{frame_limit}
-use Rattle.fitness.proofs.Chains.{every_from_all}
+use Rattle.ground.proofs.Chains.{all_below}
 use Rattle.meter.proofs.MeterFit.{fit_frame_at}
 use Rattle.meter.proofs.ReadFrames.{frame_there}
 use Rattle.meter.proofs.fit.fit_frames.Goals as goal
@@ -9,5 +9,5 @@ use Rattle.meter.proofs.fit.fit_frames.Goals as goal
 pub returns : goal.returns
 returns c =
     let args = c.args in
-    every_from_all (fit_frame_at args.count args.meter.now) frame_limit _ _ _ c.all.ensures.ran
+    all_below (fit_frame_at args.count args.meter.now) frame_limit _ _ _ c.all.ensures.ran
     (λ x b q k. search (rules, tests, frame_there args.meter.now x c.requires))

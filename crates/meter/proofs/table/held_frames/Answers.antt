@@ -1,36 +1,20 @@
--- `meter::table::held_frames` meets its contract. The invariant: how many of the places below this one hold a frame.
-use Prim.Native.Nat.{ℕ}
-use native.Mathlib.Omega.{arith}
-use mathlib.Core.Path.{◌≡◌, refl, ap, ◌∙◌}
-use borrow.Author.Rules.{rules}
+-- `meter::table::held_frames` meets its contract, by what is counted over a range.
+use mathlib.Core.Path.{refl, ◌∙◌}
+use Rattle.std.proofs.Common.{rules, tests}
+use Rattle.std.proofs.lemmas.Iterator.{YieldsList-from_range}
+use Rattle.std.proofs.lemmas.Iterator.Consumers.{YieldsList-from_filter, count_from_yields_List}
 use Rattle.ground.specs.Limits.{frame_limit}
-use Rattle.ground.specs.Rows.{total}
-use Rattle.frames.specs.Meter.{frame_at}
+use Rattle.frames.specs.Meter.{is_held, frame_at}
 use Rattle.frames.specs.MeterTable.{meter_from}
-use Rattle.meter.specs.Reading.{held_as}
-use Rattle.meter.proofs.ReadFrames.{total_turn}
+use Rattle.meter.proofs.Found.{count_below}
+use Rattle.meter.proofs.ReadFrames.{found_there}
 use Rattle.meter.proofs.table.held_frames.Goals as goal
-
-pub loop-place-init : goal.loop-place-init
-loop-place-init c = (omega arith, omega arith, refl)
-
-pub overflow_add-frames : goal.overflow_add-frames
-overflow_add-frames c =
-    let loop = c.loop-place in
-    omega (arith, loop.invariant.0, loop.invariant.1, c.one_if_held-frames.ensures.0)
-
-pub loop-place-preserved : goal.loop-place-preserved
-loop-place-preserved c =
-    let loop = c.loop-place in (
-      search rules,
-      omega (arith, loop.invariant.1, c.one_if_held-frames.ensures.0),
-      total_turn c.args.meter.now loop.place held_as loop.frames c.one_if_held-frames.result
-          c.loop-place-test.true loop.invariant.2 c.one_if_held-frames.ensures.1,
-    )
 
 pub returns : goal.returns
 returns c =
-    let loop = c.loop-place in
-    let all : loop.place ≡ frame_limit = omega (arith, c.loop-place-test.false, loop.invariant.0) in
-    loop.invariant.2
-    ∙ ap (λ (n : ℕ). total n (λ p. held_as (frame_at (meter_from c.args.meter.now) p).size)) all
+    let meter = c.args.meter.now in
+    count_from_yields_List c.filter.result _ c.count.ensures.ran
+    (YieldsList-from_filter _ (λ place. is_held (frame_at (meter_from meter) place))
+    (YieldsList-from_range 0 frame_limit frame_limit c.filter.ensures.source refl)
+    c.filter.ensures.closure (λ x b q k. search (rules, tests, found_there meter x c.requires)))
+    ∙ count_below (λ place. is_held (frame_at (meter_from meter) place)) frame_limit

@@ -1,14 +1,16 @@
-// The calls that change a network: link up, cost, link down, delivery. Each answers 100, or the lowest refusal that applies,
+// The calls that change a network: link up, cost, link down, delivery. Each is done, or answers the lowest refusal that applies,
 // which leaves both tables as they came.
 ghost use Rattle.std.specs.Prelude.{◌&&◌, ◌≡◌};
 ghost use Rattle.ground.specs.Limits.{legal_cost};
+ghost use Rattle.ground.specs.Refused.{refused_as, done_of};
 ghost use Rattle.rules.specs.Network.{up, cost, down, deliver, bad_ends};
 ghost use Rattle.rules.specs.NetworkTable.{network_answer, words_after, bytes_after};
 ghost use Rattle.network.specs.FirstRefusals.{ends_refusal, first_refusal};
 
 use events::{happen, tell};
 use fitness::{fit, tables};
-use ground::{ANSWERED, is_legal_cost};
+use ground::is_legal_cost;
+use ground::refusals::Refusal;
 use unit::calls::Call;
 use unit::refusing::link_refusal;
 
@@ -24,17 +26,17 @@ fn are_bad_ends(count: u32, a: u32, b: u32) -> bool
     a == b
 }
 
-// Refusals 2 and 3 of a call about two units, or 0.
-fn ends_refusal(words: &[u32], queues: &[u8], a: u32, b: u32) -> u32
-    ensures { result ≡ ends_refusal words.now queues.now a b }
+// Refusals 2 and 3 of a call about two units.
+fn check_ends(words: &[u32], queues: &[u8], a: u32, b: u32) -> Result<(), Refusal>
+    ensures { refused_as result ≡ ends_refusal words.now queues.now a b }
 {
     if !fit::is_fit(words, queues) {
-        return 2;
+        return Err(Refusal::Unfit);
     }
     if are_bad_ends(words[0], a, b) {
-        return 3;
+        return Err(Refusal::NoUnit);
     }
-    0
+    Ok(())
 }
 
 fn are_legal_costs(cost_of_a: u32, cost_of_b: u32) -> bool
@@ -43,16 +45,20 @@ fn are_legal_costs(cost_of_a: u32, cost_of_b: u32) -> bool
     is_legal_cost(cost_of_a) && is_legal_cost(cost_of_b)
 }
 
-// Refusals 2 to 6 of a call about the link between a and b, or 0: whether its costs are legal, and whether it asks for the link.
-fn first_refusal(words: &[u32], queues: &[u8], a: u32, b: u32, legal: bool, asks: bool) -> u32
-    ensures { result ≡ first_refusal words.now queues.now a b legal asks }
+// Refusals 2 to 6 of a call about the link between a and b: whether its costs are legal, and whether it asks for the link.
+fn check_first(
+    words: &[u32],
+    queues: &[u8],
+    a: u32,
+    b: u32,
+    legal: bool,
+    asks: bool,
+) -> Result<(), Refusal>
+    ensures { refused_as result ≡ first_refusal words.now queues.now a b legal asks }
 {
-    let number = ends_refusal(words, queues, a, b);
-    if number != 0 {
-        return number;
-    }
+    check_ends(words, queues, a, b)?;
     if !legal {
-        return 4;
+        return Err(Refusal::Cost);
     }
     link_refusal(tables::is_linked(words, a as usize, b as usize), asks)
 }
@@ -65,22 +71,13 @@ pub fn up(
     b: u32,
     cost_of_a: u32,
     cost_of_b: u32,
-) -> u32
-    ensures answer { result ≡ network_answer words.old queues.old (up a b cost_of_a cost_of_b) }
+) -> Result<(), Refusal>
+    ensures answer { done_of result ≡ network_answer words.old queues.old (up a b cost_of_a cost_of_b) }
     ensures words { words.new ≡ words_after words.old queues.old (up a b cost_of_a cost_of_b) }
     ensures queues { queues.new ≡ bytes_after words.old queues.old (up a b cost_of_a cost_of_b) }
 {
-    let number = first_refusal(
-        words,
-        queues,
-        a,
-        b,
-        are_legal_costs(cost_of_a, cost_of_b),
-        true,
-    );
-    if number != 0 {
-        return number;
-    }
+    let legal = are_legal_costs(cost_of_a, cost_of_b);
+    check_first(words, queues, a, b, legal, true)?;
     let call_a = Call::Up {
         to: b,
         cost: cost_of_a,
@@ -89,57 +86,51 @@ pub fn up(
         to: a,
         cost: cost_of_b,
     };
-    let one = tell::tell(words, a, call_a);
-    let two = tell::tell(words, b, call_b);
+    let one = tell::tell(words, a, call_a)?;
+    let two = tell::tell(words, b, call_b)?;
     happen::at_both(words, queues, a, one, b, two, false)
 }
 
 // The cost from a to its neighbour b changes: an event at a only.
-pub fn cost(words: &mut [u32], queues: &mut [u8], a: u32, b: u32, new_cost: u32) -> u32
-    ensures answer { result ≡ network_answer words.old queues.old (cost a b new_cost) }
+pub fn cost(
+    words: &mut [u32],
+    queues: &mut [u8],
+    a: u32,
+    b: u32,
+    new_cost: u32,
+) -> Result<(), Refusal>
+    ensures answer { done_of result ≡ network_answer words.old queues.old (cost a b new_cost) }
     ensures words { words.new ≡ words_after words.old queues.old (cost a b new_cost) }
     ensures queues { queues.new ≡ bytes_after words.old queues.old (cost a b new_cost) }
 {
-    let number = first_refusal(words, queues, a, b, is_legal_cost(new_cost), false);
-    if number != 0 {
-        return number;
-    }
+    check_first(words, queues, a, b, is_legal_cost(new_cost), false)?;
     let call = Call::Cost {
         to: b,
         cost: new_cost,
     };
-    let told = tell::tell(words, a, call);
+    let told = tell::tell(words, a, call)?;
     happen::at_one(words, queues, b, a, told, false)
 }
 
 // The link between a and b goes down: both its queues are emptied, and each end has its event.
-pub fn down(words: &mut [u32], queues: &mut [u8], a: u32, b: u32) -> u32
-    ensures answer { result ≡ network_answer words.old queues.old (down a b) }
+pub fn down(words: &mut [u32], queues: &mut [u8], a: u32, b: u32) -> Result<(), Refusal>
+    ensures answer { done_of result ≡ network_answer words.old queues.old (down a b) }
     ensures words { words.new ≡ words_after words.old queues.old (down a b) }
     ensures queues { queues.new ≡ bytes_after words.old queues.old (down a b) }
 {
-    let number = first_refusal(words, queues, a, b, true, false);
-    if number != 0 {
-        return number;
-    }
-    let one = tell::tell(words, a, Call::Down { to: b });
-    let two = tell::tell(words, b, Call::Down { to: a });
+    check_first(words, queues, a, b, true, false)?;
+    let one = tell::tell(words, a, Call::Down { to: b })?;
+    let two = tell::tell(words, b, Call::Down { to: a })?;
     happen::at_both(words, queues, a, one, b, two, true)
 }
 
 // The first message in the queue from a to b reaches b.
-pub fn deliver(words: &mut [u32], queues: &mut [u8], a: u32, b: u32) -> u32
-    ensures answer { result ≡ network_answer words.old queues.old (deliver a b) }
+pub fn deliver(words: &mut [u32], queues: &mut [u8], a: u32, b: u32) -> Result<(), Refusal>
+    ensures answer { done_of result ≡ network_answer words.old queues.old (deliver a b) }
     ensures words { words.new ≡ words_after words.old queues.old (deliver a b) }
     ensures queues { queues.new ≡ bytes_after words.old queues.old (deliver a b) }
 {
-    let number = first_refusal(words, queues, a, b, true, false);
-    if number != 0 {
-        return number;
-    }
-    let told = tell::tell_first(words, queues, a, b);
-    if told.answer < ANSWERED {
-        return told.answer;
-    }
+    check_first(words, queues, a, b, true, false)?;
+    let told = tell::tell_first(words, queues, a, b)?;
     happen::at_one(words, queues, a, b, told, true)
 }

@@ -2,6 +2,7 @@
 ghost use Rattle.std.specs.Prelude.{◌≡◌, ◌≤◌, ◌<◌};
 ghost use Rattle.ground.specs.Limits.{unit_limit};
 ghost use Rattle.ground.specs.Rows.{zeros};
+ghost use Rattle.ground.specs.Refused.{done_of};
 ghost use Rattle.rules.specs.Hub.{hub_answer};
 ghost use Rattle.rules.specs.Network.{fresh as freshNetwork};
 ghost use Rattle.rules.specs.NetworkTable.{fresh_network_refusal, fresh_words, fresh_bytes};
@@ -9,7 +10,8 @@ ghost use Rattle.rules.specs.Tables.{network_words, laid_unit, laid_units};
 ghost use Rattle.rules.specs.Unit.{fresh_unit};
 
 use fitness::tables;
-use ground::{ANSWERED, NETWORK_BYTES, NETWORK_WORDS, UNIT_WORDS, UNITS};
+use ground::refusals::Refusal;
+use ground::{NETWORK_BYTES, NETWORK_WORDS, UNIT_WORDS, UNITS};
 use state::questions;
 
 // The fresh unit's table.
@@ -34,25 +36,25 @@ fn fresh_units(words: &mut [u32], count: u32)
 }
 
 // A fresh network of `count` units.
-pub fn fresh(count: u32, words: &mut [u32], queues: &mut [u8]) -> u32
-    ensures answer { result ≡ hub_answer (fresh_network_refusal words.old queues.old count) 0 }
+pub fn fresh(count: u32, words: &mut [u32], queues: &mut [u8]) -> Result<(), Refusal>
+    ensures answer { done_of result ≡ hub_answer (fresh_network_refusal words.old queues.old count) 0 }
     ensures words { words.new ≡ fresh_words words.old queues.old count }
     ensures queues { queues.new ≡ fresh_bytes words.old queues.old count }
 {
     if count < 2 {
-        return 1;
+        return Err(Refusal::UnitCount);
     }
     if (UNITS as u32) < count {
-        return 1;
+        return Err(Refusal::UnitCount);
     }
     if words.len() != NETWORK_WORDS {
-        return 2;
+        return Err(Refusal::Unfit);
     }
     if queues.len() != NETWORK_BYTES {
-        return 2;
+        return Err(Refusal::Unfit);
     }
     slices::clear(words);
     slices::clear(queues);
     fresh_units(words, count);
-    ANSWERED
+    Ok(())
 }

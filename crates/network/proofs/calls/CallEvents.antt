@@ -1,15 +1,15 @@
 -- Each call whose first refusals are passed: an event at one unit, or at each end of a link.
-use Prim.Native.Nat.{ℕ}
+use Prim.Native.Nat.{ℕ, ◌<◌}
 use mathlib.Core.Bool.{Bool, true, false, ◌&&◌}
 use mathlib.Core.List.{List, []}
 use mathlib.Core.Logic.{◌≢◌, inl, inr}
 use mathlib.Core.Path.{◌≡◌, refl, sym, ap, ◌∙◌}
-use Rattle.ground.specs.Limits.{legal_cost}
-use Rattle.ground.specs.Refusal.{accepted}
+use Rattle.ground.specs.Limits.{firmware_room, legal_cost}
+use Rattle.ground.specs.Refusal.{accepted, answer_base}
 use Rattle.ground.specs.Rows.{at}
 use Rattle.rules.specs.Event.{Event, link_up, new_cost, link_down, reaction}
-use Rattle.rules.specs.Hub.{hub_up, hub_cost, hub_down}
-use Rattle.rules.specs.Network.{Network, up, cost, down, unit_at, queue, is_up, with_queue, reacted, happens, outcome}
+use Rattle.rules.specs.Hub.{hub_up, hub_cost, hub_down, table_answer}
+use Rattle.rules.specs.Network.{Network, fresh, up, cost, down, unit_at, queue, is_up, with_queue, reacted, happens, outcome}
 use Rattle.rules.specs.NetworkTable.{network_refusal}
 use Rattle.rules.specs.Tables.{network_from, fit_tables}
 use Rattle.rules.specs.Unit.{Unit}
@@ -30,7 +30,7 @@ use Rattle.events.proofs.HeldNetwork.{Tabled, fit_tabled, cleared}
 use Rattle.events.proofs.LaidTables.{shape_of}
 use Rattle.events.proofs.MessageRoom.{fits, fits_same}
 use Rattle.network.proofs.calls.CallAnswers.{Answered, refused_early}
-use Rattle.network.proofs.calls.EventTrials.{accepts_up, accepts_cost, accepts_down, trial}
+use Rattle.network.proofs.calls.EventTrials.{accepts_up, accepts_cost, accepts_down, trial, never_refused}
 use Rattle.network.proofs.calls.FirstRefusals.{up_parts, cost_parts, down_parts, up_passed, cost_passed, link_passed}
 use Rattle.network.proofs.calls.OneEvent.{One}
 use Rattle.network.proofs.calls.TwoEvents.{Pair}
@@ -124,6 +124,17 @@ module _ (words bytes : List ℕ) (a b : ℕ) where
         leads = refl;
       }
 
+  -- Its unit refuses nothing.
+  pub cost_never : (c : ℕ) {legal : Bool} → legal ≡ legal_cost c → {number : ℕ}
+      → number ≡ first_refusal words bytes a b legal false → number ≡ accepted
+      → {answer : ℕ} → answer ≡ table_answer (table_of words a) firmware_room (hub_cost b c) → answer < answer_base → ⊥
+  unfolding network_from
+  cost_never c tested first z =
+      let known = cost_passed words bytes a b c (sym (by_rules tested false first) ∙ z) in
+      let t : Ends n a b = known.1.ends in
+      never_refused words bytes known.0 a t.first (hub_cost b c)
+      (accepts_cost net (fit_tables_of words bytes known.0) a b t known.1.cost known.1.opened)
+
   -- A link up that is refused early.
   pub up_refused : (ca cb : ℕ) {legal : Bool} → legal ≡ (legal_cost ca && legal_cost cb) → {number : ℕ}
       → number ≡ first_refusal words bytes a b legal true → number ≢ accepted
@@ -166,6 +177,27 @@ module _ (words bytes : List ℕ) (a b : ℕ) where
         leads = two_happen shape t (link_up b ca) (link_up a cb);
       }
 
+  -- Neither end refuses anything.
+  module _ (ca cb : ℕ) {legal : Bool} (tested : legal ≡ (legal_cost ca && legal_cost cb)) {number : ℕ}
+      (first : number ≡ first_refusal words bytes a b legal true) (z : number ≡ accepted) where
+    up_known : (fit_tables words bytes ≡ true) × AcceptedUp net a b (fresh 0) ca cb
+    up_known = up_passed words bytes a b ca cb (sym (by_rules tested true first) ∙ z)
+
+    pub up_never : {answer : ℕ} → answer ≡ table_answer (table_of words a) firmware_room (hub_up b ca) → answer < answer_base → ⊥
+    unfolding network_from
+    up_never =
+        let t : Ends n a b = up_known.1.ends in
+        never_refused words bytes up_known.0 a t.first (hub_up b ca)
+        (accepts_up net (fit_tables_of words bytes up_known.0) a b t up_known.1.cost_a up_known.1.closed)
+
+    pub up_never_back : {answer : ℕ} → answer ≡ table_answer (table_of words b) firmware_room (hub_up a cb) → answer < answer_base → ⊥
+    unfolding network_from
+    up_never_back =
+        let t : Ends n a b = up_known.1.ends in
+        let f : FitNetwork net = fit_tables_of words bytes up_known.0 in
+        never_refused words bytes up_known.0 b t.second (hub_up a cb)
+        (accepts_up net f b a (turned t) up_known.1.cost_b (f.alike b a t.second t.first ∙ up_known.1.closed))
+
   -- A link down that is refused early.
   pub down_refused : {number : ℕ} → number ≡ first_refusal words bytes a b true false → number ≢ accepted
       → Answered words bytes (down a b) number words bytes
@@ -204,6 +236,26 @@ module _ (words bytes : List ℕ) (a b : ℕ) where
             (λ y d. emptied_elsewhere shape t b y (λ e _. (turned t).differ e) (λ _ e. d e));
         leads = two_happen (emptied_shape shape t) t (link_down b) (link_down a);
       }
+
+  -- Neither end refuses anything.
+  module _ {number : ℕ} (first : number ≡ first_refusal words bytes a b true false) (z : number ≡ accepted) where
+    down_known : (fit_tables words bytes ≡ true) × AcceptedDown net a b (fresh 0)
+    down_known = link_passed words bytes a b (sym first ∙ z)
+
+    pub down_never : {answer : ℕ} → answer ≡ table_answer (table_of words a) firmware_room (hub_down b) → answer < answer_base → ⊥
+    unfolding network_from
+    down_never =
+        let t : Ends n a b = down_known.1.ends in
+        never_refused words bytes down_known.0 a t.first (hub_down b)
+        (accepts_down net (fit_tables_of words bytes down_known.0) a b t down_known.1.opened)
+
+    pub down_never_back : {answer : ℕ} → answer ≡ table_answer (table_of words b) firmware_room (hub_down a) → answer < answer_base → ⊥
+    unfolding network_from
+    down_never_back =
+        let t : Ends n a b = down_known.1.ends in
+        let f : FitNetwork net = fit_tables_of words bytes down_known.0 in
+        never_refused words bytes down_known.0 b t.second (hub_down a)
+        (accepts_down net f b a (turned t) (f.alike b a t.second t.first ∙ down_known.1.opened))
 
   -- The tables once they are.
   pub link_emptied : {number : ℕ} → number ≡ first_refusal words bytes a b true false → number ≡ accepted

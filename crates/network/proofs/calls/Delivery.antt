@@ -16,7 +16,7 @@ use Rattle.ground.specs.Rows.{at}
 use Rattle.tree.specs.Recompute.{copy_of}
 use Rattle.tree.specs.Tree.{is_tree}
 use Rattle.rules.specs.Event.{received, reaction, message_refusal, changes_nothing}
-use Rattle.rules.specs.Hub.{hub_message, hub_refusal, hub_answer, outgoing, event_of}
+use Rattle.rules.specs.Hub.{hub_message, hub_refusal, hub_answer, table_answer, outgoing, event_of}
 use Rattle.rules.specs.Message.{Message, holds_acknowledgment, applied, written}
 use Rattle.rules.specs.Network.{Network, deliver, unit_at, queue, is_up, next_message, with_queue, reacted, happens, outcome}
 use Rattle.rules.specs.Network.{fit_queued}
@@ -39,7 +39,7 @@ use Rattle.queues.proofs.QueueMessages.{Begins, begins_empty, begins_first}
 use Rattle.fitness.specs.UnitTables.{table_of}
 use Rattle.fitness.proofs.FitTables.{table_laid}
 use Rattle.events.specs.Happening.{popped_if}
-use Rattle.events.specs.Telling.{told_by, first_in, first_told}
+use Rattle.events.specs.Telling.{told_by, first_in, first_told, first_answer}
 use Rattle.network.specs.FirstRefusals.{first_refusal}
 use Rattle.events.specs.declared.tell.Told.{Told}
 use Rattle.events.proofs.HeldNetwork.{Tabled, fit_tabled, queue_is, popped}
@@ -146,17 +146,17 @@ module _ (words bytes : List ℕ) (a b : ℕ) {number : ℕ} (first : number ≡
   unfolding network_from
   laid = queue_is (fit_tabled words bytes fit) a b ends.first ends.second
 
-  -- What the unit is told of the first message.
-  module _ {told : Told} (heard : told ≡ first_told words bytes a b) where
+  -- What the unit answers when it is told of the first message.
+  module _ {answer : ℕ} (answered : answer ≡ first_answer words bytes a b) where
     -- They begin with 0: the queue is empty.
     module _ (none : at found 0 ≡ 0) where
       -- There is nothing to tell.
-      silent : told.answer ≡ 8
-      unfolding first_told
-      silent = ap (λ (t : Told). t.answer) (heard ∙ if_true (eqb (at found 0) 0) _ _ (eq-eqb (at found 0) 0 none))
+      silent : answer ≡ 8
+      unfolding first_answer
+      silent = answered ∙ if_true (eqb (at found 0) 0) _ _ (eq-eqb (at found 0) 0 none)
 
       -- 8.
-      refused_empty : Answered words bytes (deliver a b) told.answer words bytes
+      refused_empty : Answered words bytes (deliver a b) answer words bytes
       refused_empty =
           undone
           (silent
@@ -170,13 +170,11 @@ module _ (words bytes : List ℕ) (a b : ℕ) {number : ℕ} (first : number ≡
       begins = begins_first messages (λ z. some (ap (λ (bs : List ℕ). at bs 0) laid ∙ z))
 
       -- It is told of the message that is written so.
-      same : told ≡ told_by (table_of words b) (hub_message a (written m))
-      unfolding first_told
-      same =
-          heard
-          ∙ if_false (eqb (at found 0) 0) _ _ (ne_eqb (at found 0) 0 some)
-          ∙ ap (λ (bs : List ℕ). told_by (table_of words b) (hub_message a (first_in bs))) laid
-          ∙ ap (λ (bs : List ℕ). told_by (table_of words b) (hub_message a bs)) begins.first
+      first_is : first_in found ≡ written m
+      first_is = ap first_in laid ∙ begins.first
+
+      same : {told : Told} → told ≡ first_told words bytes a b → told ≡ told_by (table_of words b) (hub_message a (written m))
+      same heard = heard ∙ ap (λ (bs : List ℕ). told_by (table_of words b) (hub_message a bs)) first_is
 
       -- The message is legal and from a.
       proper : fit_queued net.count a m ≡ true
@@ -190,22 +188,24 @@ module _ (words bytes : List ℕ) (a b : ℕ) {number : ℕ} (first : number ≡
           (queued_sender net.count a m proper)
 
       -- So it answers that refusal, or 100 and more.
-      answers : told.answer
+      answers : answer
           ≡ hub_answer (message_refusal u m) (length (outgoing (reaction u (event_of (hub_message a (written m))))))
-      unfolding network_from
+      unfolding network_from first_answer
       answers =
-          ap (λ (t : Told). t.answer) same
-          ∙ ap (λ (table : List ℕ). (told_by table (hub_message a (written m))).answer)
+          answered
+          ∙ if_false (eqb (at found 0) 0) _ _ (ne_eqb (at found 0) 0 some)
+          ∙ ap (λ (bs : List ℕ). table_answer (table_of words b) firmware_room (hub_message a bs)) first_is
+          ∙ ap (λ (table : List ℕ). table_answer table firmware_room (hub_message a (written m)))
           (table_laid words bytes fit b ends.second)
           ∙ told_answer u (s.unit b ends.second) (f.unit b ends.second) (hub_message a (written m))
           ∙ ap (λ (k : ℕ). hub_answer k (length (outgoing (reaction u (event_of (hub_message a (written m))))))) content
 
       -- It answers the refusal where there is one.
-      answers_refusal : message_refusal u m ≢ accepted → told.answer ≡ message_refusal u m
+      answers_refusal : message_refusal u m ≢ accepted → answer ≡ message_refusal u m
       answers_refusal d = answers ∙ if_false _ _ _ (ne_eqb (message_refusal u m) accepted d)
 
       -- Else it answers 100 or more.
-      answers_more : message_refusal u m ≡ accepted → answer_base ≤ told.answer
+      answers_more : message_refusal u m ≡ accepted → answer_base ≤ answer
       answers_more z = omega (arith, answers ∙ if_true _ _ _ (eq-eqb (message_refusal u m) accepted z))
 
       -- What the network refuses then is that.
@@ -213,16 +213,17 @@ module _ (words bytes : List ℕ) (a b : ℕ) {number : ℕ} (first : number ≡
       left = rw (ne_eqb (length messages) 0 (λ z. omega (arith, begins.some)))
 
       -- 10 to 12.
-      refused_content : told.answer < answer_base → Answered words bytes (deliver a b) told.answer words bytes
+      refused_content : answer < answer_base → Answered words bytes (deliver a b) answer words bytes
       refused_content low =
           by_equal (message_refusal u m) accepted
           (λ z. absurd (omega (arith, answers_more z)))
           (λ d. undone (answers_refusal d ∙ sym left) (λ z. d (sym (answers_refusal d) ∙ z)))
 
       -- Else the delivery is an event at b, in the network whose queue has lost its first message.
-      one_event : answer_base ≤ told.answer → One words bytes (deliver a b) (first_taken net a b) b told
+      one_event : answer_base ≤ answer → {told : Told} → told ≡ first_told words bytes a b
+          → One words bytes (deliver a b) (first_taken net a b) b told
       unfolding network_refusal network_from outcome happens with_queue
-      one_event high =
+      one_event high heard =
           let none : message_refusal u m ≡ accepted =
           by_equal (message_refusal u m) accepted
           (λ z. z)
@@ -232,7 +233,7 @@ module _ (words bytes : List ℕ) (a b : ℕ) {number : ℕ} (first : number ≡
             parts = deliver_parts words bytes a b _;
             none = rest_counts (first_refusal words bytes a b true false) (undelivered words bytes a b) e ∙ left ∙ none;
             does = reaction u (event_of (hub_message a (written m)));
-            tries = trial words bytes fit b ends.second (hub_message a (written m)) (content ∙ none) same;
+            tries = trial words bytes fit b ends.second (hub_message a (written m)) (content ∙ none) (same heard);
             shape = shape_queue net.count net (shape_of s) a b (drop 1 messages) ends.first ends.second;
             room =
                 fits_same net (first_taken net a b) s refl b ends.second _ (λ y h.
@@ -242,10 +243,11 @@ module _ (words bytes : List ℕ) (a b : ℕ) {number : ℕ} (first : number ≡
           }
 
     -- A refusal of the message.
-    pub refused_told : told.answer < answer_base → Answered words bytes (deliver a b) told.answer words bytes
+    pub refused_told : answer < answer_base → Answered words bytes (deliver a b) answer words bytes
     refused_told low = by_equal (at found 0) 0 refused_empty (λ some. refused_content some low)
 
     -- Else the delivery is that event.
-    pub deliver_one : answer_base ≤ told.answer → One words bytes (deliver a b) (first_taken net a b) b told
-    deliver_one high =
-        by_equal (at found 0) 0 (λ none. absurd (omega (arith, silent none))) (λ some. one_event some high)
+    pub deliver_one : answer_base ≤ answer → {told : Told} → told ≡ first_told words bytes a b
+        → One words bytes (deliver a b) (first_taken net a b) b told
+    deliver_one high heard =
+        by_equal (at found 0) 0 (λ none. absurd (omega (arith, silent none))) (λ some. one_event some high heard)

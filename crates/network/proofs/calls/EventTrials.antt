@@ -3,13 +3,15 @@
 use Prim.Native.Nat.{ℕ, ◌<◌}
 use mathlib.Core.Bool.{true, false}
 use mathlib.Core.List.{List}
-use mathlib.Core.Path.{◌≡◌}
+use mathlib.Core.Path.{◌≡◌, ap, ◌∙◌}
+use native.Mathlib.Omega.{arith}
 use borrow.Author.Tests.{lt-ltb, le-leb, eq-eqb, ne_eqb}
+use lib.ListN.{length}
 use Rattle.ground.specs.Limits.{firmware_room, legal_cost}
-use Rattle.ground.specs.Refusal.{accepted}
+use Rattle.ground.specs.Refusal.{accepted, answer_base}
 use Rattle.ground.specs.Rows.{at}
 use Rattle.rules.specs.Event.{reaction, message_refusal}
-use Rattle.rules.specs.Hub.{HubCall, hub_up, hub_cost, hub_down, hub_message, event_of, hub_refusal}
+use Rattle.rules.specs.Hub.{HubCall, hub_up, hub_cost, hub_down, hub_message, event_of, hub_refusal, hub_answer, table_answer, outgoing}
 use Rattle.rules.specs.Message.{Message, legal_message, written}
 use Rattle.rules.specs.Network.{Network, unit_at, is_up, bad_ends}
 use Rattle.rules.specs.Tables.{network_from, fit_tables}
@@ -23,7 +25,7 @@ use Rattle.fitness.proofs.FitTables.{table_laid}
 use Rattle.events.specs.Telling.{told_by}
 use Rattle.events.specs.declared.tell.Told.{Told}
 use Rattle.events.proofs.HeldNetwork.{Trial, fit_tabled}
-use Rattle.events.proofs.ToldUnit.{tells}
+use Rattle.events.proofs.ToldUnit.{tells, told_answer}
 
 -- A legal cost passes the test.
 cost_legal : {c : ℕ} → LegalCost c → legal_cost c ≡ true
@@ -93,3 +95,16 @@ trial words bytes e i h call ok same =
           rw (same, table_laid words bytes e i h)
           (rw (f.counts i h) at (tells (unit_at net i) ((fit_network_shaped words bytes e).unit i h) (f.unit i h) call ok));
     }
+
+-- Of such an event the unit answers 100 or more, and so no refusal.
+pub never_refused : (words bytes : List ℕ) (e : fit_tables words bytes ≡ true) (i : ℕ) → i < at words 0 → (call : HubCall)
+    → hub_refusal (unit_at (network_from words bytes) i) firmware_room call ≡ accepted
+    → {number : ℕ} → number ≡ table_answer (table_of words i) firmware_room call → number < answer_base → ⊥
+unfolding network_from
+never_refused words bytes e i h call ok same low =
+    let net : Network = network_from words bytes in
+    let f : FitNetwork net = fit_tables_of words bytes e in
+    let answers =
+    told_answer (unit_at net i) ((fit_network_shaped words bytes e).unit i h) (f.unit i h) call
+    ∙ ap (λ (k : ℕ). hub_answer k (length (outgoing (reaction (unit_at net i) (event_of call))))) ok in
+    omega (arith, same ∙ ap (λ (table : List ℕ). table_answer table firmware_room call) (table_laid words bytes e i h) ∙ answers)

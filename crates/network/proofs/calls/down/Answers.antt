@@ -1,0 +1,40 @@
+-- `network::calls::down` meets its contract: past its first refusals it is an event at each end, in the network whose
+-- queues of the link are emptied.
+use mathlib.Core.Bool.{true}
+use mathlib.Core.Path.{refl}
+use Rattle.std.proofs.lemmas.Result.{err_from_is_err_and}
+use Rattle.ground.proofs.Answers.{number_some, number_below}
+use Rattle.ground.proofs.Clauses.{heard_answer_words_queues, told_answer_words_queues}
+use Rattle.network.proofs.calls.CallEvents.{down_refused, down_pair, down_never, down_never_back, link_emptied}
+use Rattle.network.proofs.calls.TwoEvents.{both-answer}
+use Rattle.network.proofs.calls.down.Goals as goal
+
+pub returns-in_err-check_first : goal.returns-in_err-check_first
+returns-in_err-check_first c =
+    let s = c.args in
+    let exit = err_from_is_err_and c.from_residual.result c.from_residual.ensures.1 in
+    rw (exit.1, exit.2)
+    (told_answer_words_queues (down_refused s.words.now s.queues.now s.a s.b
+    c.in_err-check_first.ensures (number_some c.in_err-check_first.field-0.0)))
+
+pub returns-in_err-one : goal.returns-in_err-one
+returns-in_err-one c =
+    let s = c.args in
+    absurd (down_never s.words.now s.queues.now s.a s.b
+    c.in_ok-check_first.ensures refl c.in_err-one.ensures.answer (number_below c.in_err-one.field-0.0))
+
+pub returns-in_err-two : goal.returns-in_err-two
+returns-in_err-two c =
+    let s = c.args in
+    absurd (down_never_back s.words.now s.queues.now s.a s.b
+    c.in_ok-check_first.ensures refl c.in_err-two.ensures.answer (number_below c.in_err-two.field-0.0))
+
+pub returns : goal.returns
+returns c =
+    let s = c.args in
+    let first = c.in_ok-check_first.ensures in
+    told_answer_words_queues (both-answer
+    (down_pair s.words.now s.queues.now s.a s.b first refl c.in_ok-one.ensures.told c.in_ok-two.ensures.told)
+    true
+    (link_emptied s.words.now s.queues.now s.a s.b first refl)
+    (heard_answer_words_queues c.at_both.ensures))

@@ -43,10 +43,8 @@ fn put_unit(out: &mut [u8], used: usize, unit: Row, i: u32) -> usize
 {
     let count = unit.count;
     let mut then = row::put_state(out, used, i, unit.active);
-    let mut j = 0;
-    while j < count {
+    for j in 0..count {
         then = put_way(out, then, unit, i, j);
-        j += 1;
     }
     then
 }

@@ -1,5 +1,5 @@
 -- The invariant: the lines of the destinations below j are put.
-use Prim.Native.Nat.{◌-◌, ◌≤◌}
+use Prim.Native.Nat.{◌≤◌}
 use mathlib.Core.Path.{◌≡◌}
 use lib.ListN.{length}
 use Rattle.slices.proofs.Putting.{Put}
@@ -11,6 +11,3 @@ invariant-loop-j l =
     (l.j ≤ l.count)
     × (length l.out ≡ length l.initial.out)
     × Put l.initial.out l.initial.then (ways_to l.unit l.i l.j) l.then l.out
-
-abbrev pub decreases-loop-j : goal.decreases-loop-j
-decreases-loop-j l = l.count - l.j

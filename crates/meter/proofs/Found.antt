@@ -3,14 +3,14 @@
 use Prim.Native.Nat.{ℕ, zero, suc, ◌+◌, ◌≤◌, ◌<◌}
 use native.Mathlib.Numerals.{add-one}
 use native.Mathlib.Omega.{arith}
-use mathlib.Core.Bool.{Bool, cond}
+use mathlib.Core.Bool.{Bool}
 use mathlib.Core.List.{map}
 use mathlib.Core.Logic.{⊎_elim}
 use mathlib.Core.Path.{◌≡◌, refl, sym, ap, ◌∙◌}
 use denote.Param.Members.{Mut}
 use denote.Ref.{Bor}
 use lib.ListN.{length, get_or}
-use Rattle.std.specs.Prelude.{Option, Some, None, Result, Ok, Err, IfSome, unwrap_or, if◌then◌else◌}
+use Rattle.std.specs.Prelude.{Option, Some, None, Ok, Err, IfSome, unwrap_or, if◌then◌else◌}
 use Rattle.std.specs.Fn.{CalledAt}
 use Rattle.std.specs.Iterator.{FindsItem}
 use Rattle.std.specs.List.{filter, count_by, sum_by, position_or_len, range_with_len, slice_get}

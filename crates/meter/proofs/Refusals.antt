@@ -298,9 +298,9 @@ module _ (words bytes meter : List ℕ) where
 
     -- A frame that is dropped: 16, where the place holds none; else nothing, and it is the one there.
     pub drop_told : (place : ℕ) → record {
-          refusal : refused_as (ok_or (held_in meter place) NoFrame) ≡ meter_refusal words bytes meter (drops place);
-          frame : IfOk (ok_or (held_in meter place) NoFrame) (λ frame. frame ≡ as_read (frame_at (meter_from meter) place));
-        }
+      refusal : refused_as (ok_or (held_in meter place) NoFrame) ≡ meter_refusal words bytes meter (drops place);
+      frame : IfOk (ok_or (held_in meter place) NoFrame) (λ frame. frame ≡ as_read (frame_at (meter_from meter) place));
+    }
     unfolding meter_refusal meter_call_refusal
     drop_told place =
         let there = frame_there meter place (fit-metered words bytes meter fit).long in

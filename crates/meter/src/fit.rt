@@ -15,10 +15,7 @@ use ground::{ENTERED_LIMIT, FRAMES, HIGHEST_SIZE, HOPS, METER_WORDS};
 pub(crate) fn is_legal_size(size: u32) -> bool
     ensures { result ≡ legal_size size }
 {
-    if size < 1 {
-        return false;
-    }
-    size <= HIGHEST_SIZE
+    1 <= size && size <= HIGHEST_SIZE
 }
 
 // A free place: nothing but zeros.
@@ -35,19 +32,11 @@ fn fit_frame(count: u32, frame: Frame) -> bool
     if frame.size == 0 {
         return fit_nothing(frame);
     }
-    if !is_legal_size(frame.size) {
-        return false;
-    }
-    if count <= frame.unit {
-        return false;
-    }
-    if count <= frame.destination {
-        return false;
-    }
-    if frame.unit == frame.destination {
-        return false;
-    }
-    frame.hops < HOPS
+    is_legal_size(frame.size)
+        && frame.unit < count
+        && frame.destination < count
+        && frame.unit != frame.destination
+        && frame.hops < HOPS
 }
 
 // All places.
@@ -63,35 +52,24 @@ fn fit_frames(count: u32, meter: &[u32]) -> bool
 fn adds_up(entered: u64, delivered: u64, dropped: u64, held: u64) -> bool
     ensures { result ≡ (leb entered entered_limit && eqb entered (delivered + dropped + held)) }
 {
-    if ENTERED_LIMIT < entered {
-        return false;
-    }
-    if entered < delivered {
-        return false;
-    }
-    let rest = entered - delivered;
-    if rest < dropped {
-        return false;
-    }
-    rest - dropped == held
+    let left = entered
+        .checked_sub(delivered)
+        .and_then(|rest| rest.checked_sub(dropped));
+    entered <= ENTERED_LIMIT && left == Some(held)
 }
 
 // A meter's table over a network of `count` units.
 fn fit_table(count: u32, meter: &[u32]) -> bool
     ensures { result ≡ fit_table count meter.now }
 {
-    if meter.len() != METER_WORDS {
-        return false;
-    }
-    if !fit_frames(count, meter) {
-        return false;
-    }
-    adds_up(
-        table::figure_in(meter, Figure::Entered),
-        table::figure_in(meter, Figure::Delivered),
-        table::figure_in(meter, Figure::Dropped),
-        table::figure_in(meter, Figure::Held),
-    )
+    meter.len() == METER_WORDS
+        && fit_frames(count, meter)
+        && adds_up(
+            table::figure_in(meter, Figure::Entered),
+            table::figure_in(meter, Figure::Delivered),
+            table::figure_in(meter, Figure::Dropped),
+            table::figure_in(meter, Figure::Held),
+        )
 }
 
 // A network's tables and a meter's over them.

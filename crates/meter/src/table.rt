@@ -59,7 +59,7 @@ pub(crate) fn stored(meter: &[u32], from: usize) -> u64
     requires { from + 2 ≤ length meter.now }
     ensures { result ≡ figure_from meter.now from }
 {
-    meter[from] as u64 * BASE + meter[from + 1] as u64
+    u64::from(meter[from]) * BASE + u64::from(meter[from + 1])
 }
 
 // The bytes held: the sizes at all places.
@@ -69,7 +69,7 @@ fn held_bytes(meter: &[u32]) -> u64
 {
     let mut bytes: u64 = 0;
     for place in 0..FRAMES {
-        bytes += meter[PLACES + place * WIDTH] as u64;
+        bytes += u64::from(meter[PLACES + place * WIDTH]);
     }
     bytes
 }
@@ -145,7 +145,7 @@ pub(crate) fn count_bytes(meter: &mut [u32], sum: Sum, size: u32)
     ensures { meter.new ≡ laid_meter (counts sum size (meter_from meter.old)) }
 {
     let from = start_of(sum);
-    let figure = stored(meter, from) + size as u64;
+    let figure = stored(meter, from) + u64::from(size);
     let laid = [(figure / BASE) as u32, (figure % BASE) as u32];
     slices::lay_over(meter, from, &laid);
 }

@@ -1,7 +1,6 @@
 -- `meter::calls::check_enter` meets its contract. The tests are the definition's, in its order.
 use Prim.Native.Nat.{ℕ, ◌≤◌, ◌<◌}
 use native.Mathlib.Omega.{arith}
-use mathlib.Core.Bool.{true}
 use mathlib.Core.List.{List}
 use mathlib.Core.Logic.{◌≢◌}
 use mathlib.Core.Path.{◌≡◌, sym, ap, subst, ◌∙◌}
@@ -9,7 +8,7 @@ use Rattle.std.specs.Prelude.{Option, Some, None, IfSome, unwrap_or}
 use Rattle.std.proofs.lemmas.Result.{err_from_is_err_and}
 use Rattle.ground.specs.Limits.{frame_limit, entered_limit}
 use Rattle.frames.specs.Meter.{free_place, enters}
-use Rattle.frames.specs.MeterTable.{meter_from, fit_metered}
+use Rattle.frames.specs.MeterTable.{meter_from}
 use Rattle.meter.specs.Reading.{figure_in}
 use Rattle.meter.specs.declared.table.Figure.TheVariants.{Entered}
 use Rattle.meter.proofs.Found.{ok_or_ok, ok_or_err}
@@ -53,11 +52,11 @@ returns-then-words-unit-clause-refusal c =
     let args = c.args in
     let fit = sym c.if-not-is_fit.ensures in
     elim c.then-words-unit.branch [
-      then-words-unit-via-then-words-unit w ↦
-        unit_outside args.words.now args.queues.now args.meter.now fit args.size args.unit args.destination w.if-words-unit.true
+      | then-words-unit-via-then-words-unit w ↦
+          unit_outside args.words.now args.queues.now args.meter.now fit args.size args.unit args.destination w.if-words-unit.true
       | then-words-unit-via-else-words-unit+then-words-destination w ↦
-        destination_outside args.words.now args.queues.now args.meter.now fit args.size args.unit args.destination
-        w.if-words-unit.false w.if-words-destination.true
+          destination_outside args.words.now args.queues.now args.meter.now fit args.size args.unit args.destination
+          w.if-words-unit.false w.if-words-destination.true
     ]
 
 pub free_place-requires : goal.free_place-requires

@@ -1,6 +1,6 @@
 -- `meter::calls::enter` meets its contract: the refusal, or bytes counted as entered and then as delivered, or a frame put at the
 -- lowest free place.
-use Prim.Native.Nat.{ℕ, ◌≤◌, ◌<◌}
+use Prim.Native.Nat.{ℕ, ◌≤◌}
 use native.Mathlib.Omega.{arith}
 use mathlib.Core.List.{List}
 use mathlib.Core.Path.{◌≡◌, sym, subst}

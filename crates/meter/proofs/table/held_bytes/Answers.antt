@@ -14,21 +14,18 @@ use Rattle.meter.proofs.table.held_bytes.Goals as goal
 pub loop-place-init : goal.loop-place-init
 loop-place-init c = (omega arith, omega arith, refl)
 
-pub overflow_cast-bytes : goal.overflow_cast-bytes
-overflow_cast-bytes c = omega (arith, c.type_inv.meter (place_at c.loop-place.place))
-
-pub overflow_add-bytes-in-loop-place : goal.overflow_add-bytes-in-loop-place
-overflow_add-bytes-in-loop-place c =
+pub overflow_add-bytes : goal.overflow_add-bytes
+overflow_add-bytes c =
     let loop = c.loop-place in
-    omega (arith, c.type_inv.meter (place_at loop.place), loop.invariant.0, loop.invariant.1)
+    omega (arith, c.type_inv.meter (place_at loop.place), c.from-bytes.ensures, loop.invariant.0, loop.invariant.1)
 
 pub loop-place-preserved : goal.loop-place-preserved
 loop-place-preserved c =
     let loop = c.loop-place in (
       search rules,
-      omega (arith, c.type_inv.meter (place_at loop.place), loop.invariant.1),
-      total_turn c.args.meter.now loop.place (λ n. n) loop.bytes _
-          c.loop-place-test.true loop.invariant.2 refl,
+      omega (arith, c.type_inv.meter (place_at loop.place), c.from-bytes.ensures, loop.invariant.1),
+      total_turn c.args.meter.now loop.place (λ n. n) loop.bytes c.from-bytes.result
+          c.loop-place-test.true loop.invariant.2 c.from-bytes.ensures,
     )
 
 pub returns : goal.returns

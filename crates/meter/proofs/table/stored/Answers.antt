@@ -1,22 +1,8 @@
--- `meter::table::stored` meets its contract. No two numbers make a figure that is too large.
-use Prim.Native.Nat.{◌+◌}
-use native.Mathlib.Omega.{arith}
-use mathlib.Core.Path.{refl}
+-- `meter::table::stored` meets its contract: the first of the two numbers is the high one.
+use Prim.Native.Nat.{◌+◌, ◌*◌}
+use mathlib.Core.Path.{ap₂}
+use Rattle.frames.specs.MeterTable.{figure_base}
 use Rattle.meter.proofs.table.stored.Goals as goal
 
-pub overflow_cast-result : goal.overflow_cast-result
-overflow_cast-result c = omega (arith, c.type_inv.meter c.args.from)
-
-pub overflow_mul-result : goal.overflow_mul-result
-overflow_mul-result c = omega (arith, c.type_inv.meter c.args.from)
-
-pub overflow_cast-result-2 : goal.overflow_cast-result-2
-overflow_cast-result-2 c = omega (arith, c.type_inv.meter (c.args.from + 1))
-
-pub overflow_add-result-2 : goal.overflow_add-result-2
-overflow_add-result-2 c =
-    let from = c.args.from in
-    omega (arith, c.type_inv.meter from, c.type_inv.meter (from + 1))
-
 pub returns : goal.returns
-returns c = refl
+returns c = ap₂ (λ high low. high * figure_base + low) c.from.ensures c.from-2.ensures

@@ -4,11 +4,14 @@ use native.Mathlib.Omega.{arith}
 use mathlib.Core.Bool.{true, false}
 use mathlib.Core.List.{List, [], ◌++◌}
 use mathlib.Core.Logic.{◌≢◌, ⊎_elim}
-use mathlib.Core.Path.{◌≡◌, sym, ap, ◌∙◌}
+use mathlib.Core.Path.{◌≡◌, ap, ◌∙◌}
 use borrow.Author.Tests.{eq-eqb, ne_eqb, lt-ltb}
 use lib.Dec.{eqb}
-use Rattle.std.specs.Prelude.{if◌then◌else◌}
+use Rattle.std.specs.Prelude.{Ok, Err, if◌then◌else◌}
 use Rattle.ground.specs.Limits.{unit_limit}
+use Rattle.ground.specs.Refused.{number_of}
+use Rattle.ground.specs.declared.refusals.Refusal.{Refusal}
+use Rattle.ground.specs.declared.refusals.Refusal.TheVariants.{Unfit}
 use Rattle.ground.specs.Rows.{at, joined, is_in}
 use Rattle.ground.proofs.Bits.{in_bits}
 use Rattle.ground.proofs.Filling.{filled_tab_at}
@@ -70,28 +73,33 @@ module _ (words bytes : List ℕ) (fit : fit_tables words bytes ≡ true) where
   known = fit_tables_of words bytes fit
 
   -- A unit's row.
-  row-at : (i : ℕ) → i < count → row_at words bytes i ≡ row_of (unit_at (network_from words bytes) i)
+  row-at : (i : ℕ) → i < count → row_at words bytes i ≡ Ok (row_of (unit_at (network_from words bytes) i))
   unfolding row_at
   row-at i h = rw (fit, lt-ltb i count h)
 
   -- Its count is the network's.
-  row_count : (i : ℕ) → i < count → (row_at words bytes i).count ≡ count
-  row_count i h = ap (λ (row : Row). row.count) (row-at i h) ∙ known.counts i h
+  row_count : (i : ℕ) → i < count → (row_of (unit_at (network_from words bytes) i)).count ≡ count
+  row_count i h = known.counts i h
 
-  -- Its lines are the unit's.
-  lines_at : (i : ℕ) → i < count → row_lines (row_at words bytes i) i ≡ unit_lines i (unit_at (network_from words bytes) i)
-  lines_at i h = rw (row-at i h) (row-lines (unit_at (network_from words bytes) i) i)
-
--- A row without refusal is of fit tables.
-fit_unrefused : (words bytes : List ℕ) (i : ℕ) → (row_at words bytes i).refusal ≡ 0 → fit_tables words bytes ≡ true
+-- Tables of which a unit's row is not refused are fit.
+fit_unrefused : (words bytes : List ℕ) (i : ℕ) {row : Row} → row_at words bytes i ≡ Ok row → fit_tables words bytes ≡ true
 unfolding row_at
-fit_unrefused words bytes i e = ⊎_elim (λ t. t) (λ t. absurd (omega (arith, rw t at e))) (yes_or_no (fit_tables words bytes))
+fit_unrefused words bytes i e = ⊎_elim (λ t. t) (λ t. let unfit = rw t at e in cc) (yes_or_no (fit_tables words bytes))
 
--- The first unit's row is refused where they are not fit.
-pub unfit_refused : (words bytes : List ℕ) → (row_at words bytes 0).refusal ≢ 0 → fit_tables words bytes ≡ false
-unfit_refused words bytes d =
-    not_yes (fit_tables words bytes) (λ fit.
-    d (ap (λ (row : Row). row.refusal) (row-at words bytes fit 0 (omega (arith, (fit_tables_of words bytes fit).low)))))
+-- The first unit's row is refused only where they are not fit, and with the number of that.
+pub unfit_refused : (words bytes : List ℕ) {refusal : Refusal} → row_at words bytes 0 ≡ Err refusal
+    → (fit_tables words bytes ≡ false) × (number_of refusal ≡ 2)
+unfolding row_at
+unfit_refused words bytes {refusal} e =
+    let told = rw unfit at e in
+    let same : refusal ≡ Unfit = cc in
+    (unfit, ap number_of same)
+  where
+    unfit : fit_tables words bytes ≡ false
+    unfit =
+        not_yes (fit_tables words bytes) (λ fit.
+        let row = row-at words bytes fit 0 (omega (arith, (fit_tables_of words bytes fit).low)) in
+        cc)
 
 -- What the first unit's row tells where it is not refused.
 pub record Shows (words bytes : List ℕ) (first : Row) : Type 0 where
@@ -100,28 +108,37 @@ pub record Shows (words bytes : List ℕ) (first : Row) : Type 0 where
   pub high : first.count ≤ unit_limit
 
 -- It tells so by its answer.
-pub shows : (words bytes : List ℕ) {first : Row} → first ≡ row_at words bytes 0 → first.refusal ≡ 0
-    → Shows words bytes first
-shows words bytes {first} e none =
+pub shows : (words bytes : List ℕ) {first : Row} → row_at words bytes 0 ≡ Ok first → Shows words bytes first
+shows words bytes {first} e =
     record { fit = fit; all = all; high = omega (arith, all, (fit_tables_of words bytes fit).high) }
   where
     fit : fit_tables words bytes ≡ true
-    fit = fit_unrefused words bytes 0 (ap (λ (row : Row). row.refusal) (sym e) ∙ none)
+    fit = fit_unrefused words bytes 0 e
 
     all : first.count ≡ (network_from words bytes).count
-    all = ap (λ (row : Row). row.count) e ∙ row_count words bytes fit 0 (omega (arith, (fit_tables_of words bytes fit).low))
+    all =
+        let inside : 0 < (network_from words bytes).count = omega (arith, (fit_tables_of words bytes fit).low) in
+        let row = row-at words bytes fit 0 inside in
+        let same : first ≡ row_of (unit_at (network_from words bytes) 0) = cc in
+        ap (λ (row : Row). row.count) same ∙ row_count words bytes fit 0 inside
 
 -- What the rows of the others tell then.
-module _ (words bytes : List ℕ) {first row : Row} (told : Shows words bytes first) (i : ℕ) (below : i < first.count)
-    (asked : row ≡ row_at words bytes i) where
+module _ (words bytes : List ℕ) {first : Row} (told : Shows words bytes first) (i : ℕ) (below : i < first.count) where
   inside : i < (network_from words bytes).count
   inside = omega (arith, told.all)
 
-  -- No more destinations than units.
-  pub row_high : row.count ≤ unit_limit
-  row_high =
-      omega (arith, told, ap (λ (r : Row). r.count) asked, row_count words bytes told.fit i inside)
+  -- They are not refused.
+  pub never_refused : {refusal : Refusal} → row_at words bytes i ≡ Err refusal → ⊥
+  never_refused e = let row = row-at words bytes told.fit i inside in cc
 
-  -- The unit's lines.
-  pub row_shown : row_lines row i ≡ unit_lines i (unit_at (network_from words bytes) i)
-  row_shown = rw asked (lines_at words bytes told.fit i inside)
+  module _ {row : Row} (asked : row_at words bytes i ≡ Ok row) where
+    row_is : row ≡ row_of (unit_at (network_from words bytes) i)
+    row_is = let row = row-at words bytes told.fit i inside in cc
+
+    -- No more destinations than units.
+    pub row_high : row.count ≤ unit_limit
+    row_high = omega (arith, told, ap (λ (r : Row). r.count) row_is, row_count words bytes told.fit i inside)
+
+    -- The unit's lines.
+    pub row_shown : row_lines row i ≡ unit_lines i (unit_at (network_from words bytes) i)
+    row_shown = rw row_is (row-lines (unit_at (network_from words bytes) i) i)

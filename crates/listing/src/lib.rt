@@ -10,9 +10,6 @@ ghost use Rattle.listing.specs.Shown.{show_text};
 use state::questions::Row;
 use texts::{row, text};
 
-// The refusal of tables that are not fit.
-const UNFIT: u32 = 2;
-
 // The line of a destination, unless it is the unit itself.
 fn put_way(out: &mut [u8], used: usize, unit: Row, i: u32, j: usize) -> usize
     requires { (unit.count ≤ unit_limit) × (j < unit.count) }
@@ -57,14 +54,16 @@ pub fn show(words: &[u32], queues: &[u8], out: &mut [u8], used: usize) -> usize
     ensures answer { result ≡ used_after used (show_text words.now queues.now) out.old }
     ensures out { out.new ≡ put_after used (show_text words.now queues.now) out.old }
 {
-    let first = asking::row_of(words, queues, 0);
-    if first.refusal != 0 {
-        return text::put_refused(out, used, UNFIT);
-    }
-    let count = first.count as u32;
+    let count = match asking::row_of(words, queues, 0) {
+        Ok(first) => first.count as u32,
+        Err(refusal) => return text::put_refused(out, used, refusal.number()),
+    };
     let mut then = used;
     for i in 0..count {
-        then = put_unit(out, then, asking::row_of(words, queues, i), i);
+        // Where the first row is not refused, none is.
+        if let Ok(unit) = asking::row_of(words, queues, i) {
+            then = put_unit(out, then, unit, i);
+        }
     }
     then
 }

@@ -20,9 +20,9 @@ use Rattle.ground.proofs.Filled.{take_filled}
 use Rattle.ground.proofs.Refusal.{otherwise_none, gives_below, otherwise_below}
 use Rattle.ground.proofs.Tests.{both, not_yes, yes_or_no}
 use Rattle.rules.proofs.LegalMessages.{legal_of}
-use Rattle.message.specs.Numbers.{field_places, fields_refusal, read_answer, laid_fields, fields_laid, fields_after, write_answer}
+use Rattle.message.specs.Numbers.{field_places, fields_refusal, read_answer, laid_fields, fields_laid, fields_after}
 use Rattle.message.specs.Fields.{fields_of}
-use Rattle.message.specs.Writing.{writing_of, frame_after, room_refusal}
+use Rattle.message.specs.Writing.{write_answer, frame_after, room_refusal}
 use Rattle.border.specs.MessageBytes.{field_bytes, border_fields, are_changes, broken_refusal, border_write_answer, border_frame}
 use Rattle.border.proofs.Numbers.{length_words}
 
@@ -146,7 +146,7 @@ module _ (n kind sender : ℕ) (changes frame : List ℕ) (offset : ℕ) where
         → answer ≡ broken_refusal n (length changes / 4) (length frame) offset
         → (answer ≡ border_write_answer n kind sender changes (length frame) offset)
         × (frame ≡ border_frame n kind sender changes frame offset)
-    unfolding border_write_answer border_frame writing_of frame_after
+    unfolding border_write_answer border_frame write_answer frame_after
     write_many more e =
         let refused = ne_eqb _ accepted never_accepted in
         (rw (fours, same_refusal, refused) e, rw (fours, same_refusal, refused))
@@ -168,7 +168,7 @@ module _ (n kind sender : ℕ) (changes frame : List ℕ) (offset : ℕ) where
 
     -- Else the writer decides.
     pub write_all : {given after : List ℕ} {answer : ℕ} → given ≡ words_of changes
-        → (answer ≡ write_answer (writing_of n (fields_of kind sender given) (length frame) offset))
+        → (answer ≡ write_answer n (fields_of kind sender given) (length frame) offset)
         × (after ≡ frame_after n (fields_of kind sender given) frame offset)
         → (answer ≡ border_write_answer n kind sender changes (length frame) offset)
         × (after ≡ border_frame n kind sender changes frame offset)

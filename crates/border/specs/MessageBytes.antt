@@ -4,9 +4,9 @@ use Rattle.std.specs.Prelude.{if◌then◌else◌}
 use Rattle.ground.specs.Refusal.{accepted, ◌otherwise◌}
 use Rattle.rules.specs.Message.{message_of}
 use Rattle.rules.specs.Tables.{bytes_of, words_of}
-use Rattle.message.specs.Numbers.{field_places, fields_refusal, fields_laid, write_answer}
+use Rattle.message.specs.Numbers.{field_places, fields_refusal, fields_laid}
 use Rattle.message.specs.Fields.{fields_of}
-use Rattle.message.specs.Writing.{writing_of, frame_after, room_refusal}
+use Rattle.message.specs.Writing.{write_answer, frame_after, room_refusal}
 
 abbrev pub field_bytes : ℕ
 field_bytes = 4 * field_places
@@ -27,7 +27,7 @@ broken_refusal n entries places offset = room_refusal n entries places offset ot
 
 unfoldable pub border_write_answer : (n kind sender : ℕ) (changes : List ℕ) (places offset : ℕ) → ℕ
 border_write_answer n kind sender changes places offset =
-    if are_changes changes then write_answer (writing_of n (fields_of kind sender (words_of changes)) places offset)
+    if are_changes changes then write_answer n (fields_of kind sender (words_of changes)) places offset
     else broken_refusal n (length changes / 4) places offset
 
 unfoldable pub border_frame : (n kind sender : ℕ) (changes frame : List ℕ) (offset : ℕ) → List ℕ

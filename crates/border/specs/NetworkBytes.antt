@@ -6,7 +6,7 @@ use Rattle.ground.specs.Refusal.{accepted, ◌gives◌, ◌otherwise◌}
 use Rattle.rules.specs.Network.{Call, up, cost, down, deliver, fresh, fresh_refusal}
 use Rattle.rules.specs.NetworkTable.{network_answer, words_after, bytes_after, path_after}
 use Rattle.rules.specs.Tables.{network_words, network_bytes, laid_units, laid_queues, bytes_of, words_of}
-use Rattle.paths.specs.Tracing.{trace_answer, trace_number}
+use Rattle.paths.specs.Tracing.{trace_answer}
 use Rattle.border.specs.declared.networks.NetworkCall.{NetworkCall}
 use Rattle.border.specs.declared.networks.NetworkCall.TheVariants.{Up, Cost, Down, Deliver}
 
@@ -53,7 +53,7 @@ asked_of_units units answer = if are_units_long units then answer (words_of unit
 -- The tracer.
 abbrev pub border_trace : (units queues : List ℕ) (start destination : ℕ) (choices path : List ℕ) → ℕ
 border_trace units queues start destination choices path =
-    asked_of_units units (λ words. trace_number (trace_answer words queues start destination choices path))
+    asked_of_units units (λ words. trace_answer words queues start destination choices path)
 
 unfoldable pub border_path : (units queues : List ℕ) (start destination : ℕ) (choices path : List ℕ) → List ℕ
 border_path units queues start destination choices path =

@@ -6,7 +6,7 @@ ghost use Rattle.rules.specs.Hub.{hub_up, hub_cost, hub_down, hub_message};
 ghost use Rattle.state.specs.Asked.{asked_of};
 ghost use Rattle.unit.specs.Calls.{call_of};
 
-use crate::words;
+use crate::{answers, words};
 use ground::{UNIT_WORDS, UNITS};
 use state::questions;
 use state::questions::Question;
@@ -33,7 +33,7 @@ pub fn puntclover_hub_fresh(count: u32, me: u32, table: &mut [u8]) -> u32
     words::take_numbers(&mut numbers, table);
     let answer = questions::fresh(count, me, &mut numbers);
     words::lay_numbers(table, &numbers);
-    answer
+    answers::done(answer)
 }
 
 // A call over the bytes of a table: the call over its numbers, laid back.
@@ -49,7 +49,7 @@ fn answer(table: &mut [u8], call: Call, bytes: &[u8], out: &mut [u8]) -> u32
     words::take_numbers(&mut numbers, table);
     let answer = calls::answer(&mut numbers, call, bytes, out);
     words::lay_numbers(table, &numbers);
-    answer
+    answers::length(answer)
 }
 
 pub fn puntclover_hub_up(table: &mut [u8], to: u32, cost: u32, out: &mut [u8]) -> u32
@@ -95,7 +95,7 @@ pub fn puntclover_hub_state(table: &[u8]) -> u32
     }
     let mut numbers = [0u32; UNIT_WORDS];
     words::take_numbers(&mut numbers, table);
-    questions::active(&numbers)
+    answers::test(questions::active(&numbers))
 }
 
 // A question over the bytes of a table.
@@ -107,7 +107,7 @@ fn ask(table: &[u8], question: Question, to: u32) -> u32
     }
     let mut numbers = [0u32; UNIT_WORDS];
     words::take_numbers(&mut numbers, table);
-    questions::ask(&numbers, question, to)
+    answers::reached(questions::ask(&numbers, question, to))
 }
 
 pub fn puntclover_hub_distance(table: &[u8], to: u32) -> u32

@@ -5,11 +5,12 @@
 // has one unit's calls and questions, `messages` the reader and the writer, `networks` a whole network and the tracer, `meters`
 // a meter over a network.
 //
-// An answer below 100 is a refusal, which leaves all that was lent as it came; any other answer is 100 plus the value, or the
+// Here answers become numbers (`answers`). One below 100 is a refusal, which leaves all that was lent as it came; any other is 100 plus the value, or the
 // largest number for unreachable. Every name begins with `puntclover_`: the crate `border_c` exports them for C, and
 // include/puntclover/ has the headers.
 #![tactic(auto)]
 
+mod answers;
 pub mod hub;
 pub mod messages;
 pub mod meters;

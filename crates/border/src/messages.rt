@@ -8,7 +8,7 @@ ghost use Rattle.rules.specs.Tables.{words_of};
 ghost use Rattle.message.specs.Numbers.{read_answer};
 ghost use Rattle.border.specs.MessageBytes.{broken_refusal, border_write_answer, border_frame, border_fields};
 
-use crate::words;
+use crate::{answers, words};
 use ground::{ANSWERED, ENTRIES, UNITS};
 use message::{numbers, writer};
 
@@ -33,23 +33,23 @@ pub fn puntclover_message_read(count: u32, bytes: &[u8], fields: &mut [u8]) -> u
         return 7;
     }
     let mut numbers = [0u32; FIELDS];
-    let answer = numbers::read(count, bytes, &mut numbers);
-    if answer < ANSWERED {
-        return answer;
+    match numbers::read(count, bytes, &mut numbers) {
+        Ok(entries) => {
+            words::lay_numbers(&mut fields[..FIELD_BYTES], &numbers);
+            ANSWERED + entries as u32
+        }
+        Err(refusal) => refusal.number(),
     }
-    words::lay_numbers(&mut fields[..FIELD_BYTES], &numbers);
-    answer
 }
 
 // The refusal of bytes that are not those of changes, or of more than a message holds: 9, behind 1 and 7.
 fn broken(count: u32, entries: usize, places: usize, offset: usize) -> u32
     ensures { result ≡ broken_refusal count entries places offset }
 {
-    let number = writer::room_refusal(count, entries, places, offset);
-    if number != 0 {
-        return number;
+    match writer::room_refusal(count, entries, places, offset) {
+        Ok(()) => 9,
+        Err(refusal) => refusal.number(),
     }
-    9
 }
 
 // The changes in the bytes, with zeros after the last.
@@ -83,5 +83,5 @@ pub fn puntclover_message_write(
         return broken(count, entries, frame.len(), offset);
     }
     let numbers = changes_in(changes, entries);
-    numbers::write(count, kind, sender, &numbers[..entries], frame, offset)
+    answers::length(writer::write(count, kind, sender, &numbers[..entries], frame, offset))
 }

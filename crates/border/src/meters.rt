@@ -1,14 +1,17 @@
 // A meter over a network's routes. It only reads the network's tables.
-ghost use Rattle.std.specs.Prelude.{◌≡◌};
+ghost use Rattle.std.specs.Prelude.{◌≡◌, IfOk};
 ghost use Rattle.rules.specs.Hub.{hub_answer};
 ghost use Rattle.frames.specs.Meter.{enters, moves, drops};
 ghost use Rattle.frames.specs.MeterTable.{meter_answer, meter_after, entered_answer, delivered_answer, dropped_answer, held_answer, frames_answer, size_answer, unit_answer, destination_answer, hops_answer};
+ghost use Rattle.meter.specs.Fates.{fate_of, HeldInside};
 ghost use Rattle.meter.specs.Reading.{figure_asked, field_asked};
 ghost use Rattle.border.specs.MeterBytes.{frame_told, border_meter_call, border_meter, border_fresh_meter_refusal, fresh_meter_bytes, asked_of_meter};
 
 use crate::networks::UNITS_BYTES;
-use crate::words;
+use crate::{answers, words};
+use ground::refusals::Refusal;
 use ground::{METER_WORDS, NETWORK_WORDS};
+use meter::calls::Fate;
 use meter::questions::Field;
 use meter::table::Figure;
 use meter::{calls, questions};
@@ -34,12 +37,13 @@ pub fn puntclover_meter_fresh(meter: &mut [u8]) -> u32
     let mut numbers = [0u32; METER_WORDS];
     let answer = calls::fresh(&mut numbers);
     words::lay_numbers(meter, &numbers);
-    answer
+    answers::done(answer)
 }
 
 // A call over the numbers of the units and of the meter.
-fn tell(numbers: &[u32], queues: &[u8], table: &mut [u32], call: FrameCall) -> u32
-    ensures answer { result ≡ meter_answer numbers.now queues.now table.old (frame_told call) }
+fn tell(numbers: &[u32], queues: &[u8], table: &mut [u32], call: FrameCall) -> Result<Fate, Refusal>
+    ensures answer { fate_of result ≡ meter_answer numbers.now queues.now table.old (frame_told call) }
+    ensures inside { IfOk result HeldInside }
     ensures table { table.new ≡ meter_after numbers.now queues.now table.old (frame_told call) }
 {
     match call {
@@ -73,7 +77,7 @@ fn answer(units: &[u8], queues: &[u8], meter: &mut [u8], call: FrameCall) -> u32
     words::take_numbers(&mut table, meter);
     let answer = tell(&numbers, queues, &mut table, call);
     words::lay_numbers(meter, &table);
-    answer
+    answers::fate(answer)
 }
 
 // A frame enters at a unit: 100 plus its place, or 200 where that is its destination.
@@ -132,7 +136,7 @@ fn ask_figure(units: &[u8], queues: &[u8], meter: &[u8], which: Figure) -> u64
     words::take_numbers(&mut numbers, units);
     let mut table = [0u32; METER_WORDS];
     words::take_numbers(&mut table, meter);
-    questions::ask_figure(&numbers, queues, &table, which)
+    answers::figure(questions::ask_figure(&numbers, queues, &table, which))
 }
 
 pub fn puntclover_meter_entered(units: &[u8], queues: &[u8], meter: &[u8]) -> u64
@@ -180,7 +184,7 @@ fn ask_field(units: &[u8], queues: &[u8], meter: &[u8], frame: u32, which: Field
     words::take_numbers(&mut numbers, units);
     let mut table = [0u32; METER_WORDS];
     words::take_numbers(&mut table, meter);
-    questions::ask_field(&numbers, queues, &table, frame, which)
+    answers::field(questions::ask_field(&numbers, queues, &table, frame, which))
 }
 
 pub fn puntclover_meter_frame_size(units: &[u8], queues: &[u8], meter: &[u8], frame: u32) -> u32

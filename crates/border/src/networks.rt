@@ -1,12 +1,14 @@
 // A whole network of units with its queues, and the tracer, for planning tools and tests.
 ghost use Rattle.std.specs.Prelude.{◌≡◌};
+ghost use Rattle.ground.specs.Refused.{done_of};
 ghost use Rattle.rules.specs.Hub.{hub_answer};
 ghost use Rattle.rules.specs.Network.{up, cost, down, deliver};
 ghost use Rattle.rules.specs.NetworkTable.{network_answer, words_after, bytes_after, state_answer, distance_between, feasible_between, successors_between, link_between, awaits_between};
 ghost use Rattle.asking.specs.Asking.{asked_between};
 ghost use Rattle.border.specs.NetworkBytes.{call_told, border_call, border_units, border_queues, border_fresh_refusal, fresh_units_bytes, fresh_queues_bytes, asked_of_units, border_trace, border_path};
 
-use crate::words;
+use crate::{answers, words};
+use ground::refusals::Refusal;
 use ground::{NETWORK_BYTES, NETWORK_WORDS, UNITS};
 use network::{calls, fresh};
 use paths::tracer;
@@ -44,12 +46,12 @@ pub fn puntclover_network_fresh(count: u32, units: &mut [u8], queues: &mut [u8])
     let mut numbers = [0u32; NETWORK_WORDS];
     let answer = fresh::fresh(count, &mut numbers, queues);
     words::lay_numbers(units, &numbers);
-    answer
+    answers::done(answer)
 }
 
 // A call over the units' numbers.
-fn tell(numbers: &mut [u32], queues: &mut [u8], call: NetworkCall) -> u32
-    ensures answer { result ≡ network_answer numbers.old queues.old (call_told call) }
+fn tell(numbers: &mut [u32], queues: &mut [u8], call: NetworkCall) -> Result<(), Refusal>
+    ensures answer { done_of result ≡ network_answer numbers.old queues.old (call_told call) }
     ensures numbers { numbers.new ≡ words_after numbers.old queues.old (call_told call) }
     ensures queues { queues.new ≡ bytes_after numbers.old queues.old (call_told call) }
 {
@@ -74,7 +76,7 @@ fn answer(units: &mut [u8], queues: &mut [u8], call: NetworkCall) -> u32
     words::take_numbers(&mut numbers, units);
     let answer = tell(&mut numbers, queues, call);
     words::lay_numbers(units, &numbers);
-    answer
+    answers::done(answer)
 }
 
 pub fn puntclover_network_up(
@@ -130,7 +132,7 @@ pub fn puntclover_network_state(units: &[u8], queues: &[u8], i: u32) -> u32
     }
     let mut numbers = [0u32; NETWORK_WORDS];
     words::take_numbers(&mut numbers, units);
-    asking::state(&numbers, queues, i)
+    answers::test(asking::state(&numbers, queues, i))
 }
 
 // A question to unit i about unit j over the bytes of the units.
@@ -142,7 +144,7 @@ fn ask(units: &[u8], queues: &[u8], i: u32, j: u32, question: Question) -> u32
     }
     let mut numbers = [0u32; NETWORK_WORDS];
     words::take_numbers(&mut numbers, units);
-    asking::asked(&numbers, queues, i, j, question)
+    answers::reached(asking::asked(&numbers, queues, i, j, question))
 }
 
 pub fn puntclover_network_distance(units: &[u8], queues: &[u8], i: u32, j: u32) -> u32

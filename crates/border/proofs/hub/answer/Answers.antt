@@ -12,8 +12,9 @@ returns-then-table-ne-TABLE_BYTES c =
 pub returns : goal.returns
 returns c =
     let args = c.args in
-    told_answer_table_sent (right_length args.table.now args.out.now (call_of args.call args.bytes.now) _ _ _ _ _
+    rw c.length.ensures
+    (told_answer_table_sent (right_length args.table.now args.out.now (call_of args.call args.bytes.now) _ _ _ _ _
     c.if-table-ne-TABLE_BYTES.false
     c.take_numbers.ensures
-    (heard_answer_table_sent c.answer-answer.ensures)
-    c.lay_numbers.ensures)
+    (c.answer-answer.ensures.answer, (c.answer-answer.ensures.table, c.answer-answer.ensures.sent))
+    c.lay_numbers.ensures))

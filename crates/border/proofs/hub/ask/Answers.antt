@@ -11,5 +11,6 @@ returns-then-table-ne-TABLE_BYTES c =
 pub returns : goal.returns
 returns c =
     let args = c.args in
-    right_asked args.table.now (λ words. asked_of args.question words args.to)
-    c.if-table-ne-TABLE_BYTES.false c.take_numbers.ensures c.ask.ensures
+    rw c.reached.ensures
+    (right_asked args.table.now (λ words. asked_of args.question words args.to)
+    c.if-table-ne-TABLE_BYTES.false c.take_numbers.ensures c.ask.ensures.answer)

@@ -23,8 +23,9 @@ returns-then-table-ne-TABLE_BYTES c =
 pub returns : goal.returns
 returns c =
     let args = c.args in
-    told_answer_table (fresh_right args.table.now args.count args.me _ _ _ _
+    rw c.done.ensures
+    (told_answer_table (fresh_right args.table.now args.count args.me _ _ _ _
     c.if-table-ne-TABLE_BYTES.false
     c.take_numbers.ensures
     (heard_answer_table c.fresh-answer.ensures)
-    c.lay_numbers.ensures)
+    c.lay_numbers.ensures))

@@ -8,5 +8,6 @@ returns-then-table-ne-TABLE_BYTES c = wrong_asked c.args.table.now active_answer
 
 pub returns : goal.returns
 returns c =
-    right_asked c.args.table.now active_answer
-    c.if-table-ne-TABLE_BYTES.false c.take_numbers.ensures c.active.ensures
+    rw c.test.ensures
+    (right_asked c.args.table.now active_answer
+    c.if-table-ne-TABLE_BYTES.false c.take_numbers.ensures c.active.ensures)

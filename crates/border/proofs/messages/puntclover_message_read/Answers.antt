@@ -7,6 +7,7 @@ use Rattle.ground.proofs.Limits.{count_legal, count_low, count_high}
 use Rattle.message.specs.Numbers.{field_places}
 use Rattle.ground.specs.Rows.{zeros}
 use Rattle.border.proofs.MessageBorder.{read_bad, read_short, read_refused, read_laid}
+use Rattle.ground.proofs.Answers.{number_below}
 use Rattle.ground.proofs.Clauses.{told_answer_fields}
 use Rattle.border.proofs.messages.puntclover_message_read.Goals as goal
 
@@ -25,22 +26,24 @@ returns-then-fields-lt-FIELD_BYTES c =
     let args = c.args in
     told_answer_fields (read_short _ args.bytes.now args.fields.now (count_legal _ c.if-count-lt2.false c.if-count.false) c.if-fields-lt-FIELD_BYTES.true)
 
-pub returns-then-answer-lt-ANSWERED : goal.returns-then-answer-lt-ANSWERED
-returns-then-answer-lt-ANSWERED c =
-    let args = c.args in
-    told_answer_fields (read_refused _ args.bytes.now args.fields.now (count_legal _ c.if-count-lt2.false c.if-count.false)
-    c.if-fields-lt-FIELD_BYTES.false (zeros field_places) (length-replicate {A = ℕ} field_places 0) c.read-answer.ensures.answer c.if-answer-lt-ANSWERED.true)
-
-pub slice_bounds-lay_numbers-end-2 : goal.slice_bounds-lay_numbers-end-2
-slice_bounds-lay_numbers-end-2 c = simp length-take (omega arith)
+pub slice_bounds-lay_numbers-end-in-Ok : goal.slice_bounds-lay_numbers-end-in-Ok
+slice_bounds-lay_numbers-end-in-Ok c = simp length-take (omega arith)
 
 pub lay_numbers-requires : goal.lay_numbers-requires
 lay_numbers-requires c = simp length-take (omega arith)
 
-pub returns : goal.returns
-returns c =
+pub returns-in-Err : goal.returns-in-Err
+returns-in-Err c =
+    let args = c.args in
+    rw c.number.ensures
+    (told_answer_fields (read_refused _ args.bytes.now args.fields.now (count_legal _ c.if-count-lt2.false c.if-count.false)
+    c.if-fields-lt-FIELD_BYTES.false (zeros field_places) (length-replicate {A = ℕ} field_places 0)
+    c.in-Err.ensures.answer (number_below c.in-Err.refusal)))
+
+pub returns-in-Ok : goal.returns-in-Ok
+returns-in-Ok c =
     let args = c.args in
     told_answer_fields (rw c.lay_numbers.ensures
     (read_laid _ args.bytes.now args.fields.now (count_legal _ c.if-count-lt2.false c.if-count.false)
     c.if-fields-lt-FIELD_BYTES.false (zeros field_places) (length-replicate {A = ℕ} field_places 0) refl
-    c.read-answer.ensures.answer c.if-answer-lt-ANSWERED.false c.read-answer.ensures.fields))
+    c.in-Ok.ensures.answer (omega arith) c.in-Ok.ensures.fields))

@@ -34,7 +34,8 @@ slice_bounds-write-end c =
 pub returns : goal.returns
 returns c =
     let args = c.args in
-    told_answer_frame (write_all args.count args.kind args.sender args.changes.now args.frame.now args.offset
+    rw c.length.ensures
+    (told_answer_frame (write_all args.count args.kind args.sender args.changes.now args.frame.now args.offset
     c.if-changes-ne0.false
     (changes_taken args.changes.now (length args.changes.now / 4) (omega arith) c.changes_in-numbers.ensures)
-    (heard_answer_frame c.write.ensures))
+    (c.write.ensures.answer, c.write.ensures.frame)))

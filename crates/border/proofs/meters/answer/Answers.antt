@@ -19,9 +19,10 @@ returns-then-meter-ne-METER_BYTES c =
 pub returns : goal.returns
 returns c =
     let args = c.args in
-    told_answer_meter (both_told args.units.now args.meter.now args.queues.now (frame_told args.call)
+    rw c.fate.ensures
+    (told_answer_meter (both_told args.units.now args.meter.now args.queues.now (frame_told args.call)
     c.if-units-ne-UNITS_BYTES.false c.if-meter-ne-METER_BYTES.false
     c.take_numbers.ensures
     c.take_numbers-2.ensures
-    (heard_answer_table c.tell-answer.ensures)
-    c.lay_numbers.ensures)
+    (c.tell-answer.ensures.answer, c.tell-answer.ensures.table)
+    c.lay_numbers.ensures))

@@ -20,9 +20,10 @@ returns-then-meter-ne-METER_BYTES c =
 pub returns : goal.returns
 returns c =
     let args = c.args in
-    both_asked args.units.now args.meter.now
+    rw c.field.ensures
+    (both_asked args.units.now args.meter.now
     (λ words table. field_asked args.which words args.queues.now table args.frame)
     c.if-units-ne-UNITS_BYTES.false c.if-meter-ne-METER_BYTES.false
     c.take_numbers.ensures
     c.take_numbers-2.ensures
-    c.ask_field.ensures
+    c.ask_field.ensures.answer)

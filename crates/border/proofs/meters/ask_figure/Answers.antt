@@ -20,9 +20,10 @@ returns-then-meter-ne-METER_BYTES c =
 pub returns : goal.returns
 returns c =
     let args = c.args in
-    both_asked args.units.now args.meter.now
+    rw c.figure.ensures
+    (both_asked args.units.now args.meter.now
     (λ words table. figure_asked args.which words args.queues.now table)
     c.if-units-ne-UNITS_BYTES.false c.if-meter-ne-METER_BYTES.false
     c.take_numbers.ensures
     c.take_numbers-2.ensures
-    c.ask_figure.ensures
+    c.ask_figure.ensures.answer)

@@ -13,7 +13,8 @@ returns-then-meter-ne-METER_BYTES c = told_answer_meter (fresh_meter_refused c.a
 
 pub returns : goal.returns
 returns c =
-    told_answer_meter (fresh_meter_laid c.args.meter.now c.if-meter-ne-METER_BYTES.false
+    rw c.done.ensures
+    (told_answer_meter (fresh_meter_laid c.args.meter.now c.if-meter-ne-METER_BYTES.false
     (zeros meter_words) (length-replicate {A = ℕ} meter_words 0)
     (heard_answer_meter c.fresh-answer.ensures)
-    c.lay_numbers.ensures)
+    c.lay_numbers.ensures))

@@ -12,8 +12,9 @@ returns-then-units-ne-UNITS_BYTES c =
 pub returns : goal.returns
 returns c =
     let args = c.args in
-    told_answer_units_queues (right_units args.units.now args.queues.now (call_told args.call)
+    rw c.done.ensures
+    (told_answer_units_queues (right_units args.units.now args.queues.now (call_told args.call)
     c.if-units-ne-UNITS_BYTES.false
     c.take_numbers.ensures
     (heard_answer_numbers_queues c.tell-answer.ensures)
-    c.lay_numbers.ensures)
+    c.lay_numbers.ensures))

@@ -11,5 +11,6 @@ returns-then-units-ne-UNITS_BYTES c =
 pub returns : goal.returns
 returns c =
     let args = c.args in
-    right_asked args.units.now (λ words. asked_between args.question words args.queues.now args.i args.j)
-    c.if-units-ne-UNITS_BYTES.false c.take_numbers.ensures c.asked.ensures
+    rw c.reached.ensures
+    (right_asked args.units.now (λ words. asked_between args.question words args.queues.now args.i args.j)
+    c.if-units-ne-UNITS_BYTES.false c.take_numbers.ensures c.asked.ensures.answer)

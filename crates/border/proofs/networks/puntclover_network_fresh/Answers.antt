@@ -33,8 +33,9 @@ returns-then-queues-ne-NETWORK_BYTES c =
 pub returns : goal.returns
 returns c =
     let args = c.args in
-    told_answer_units_queues (fresh_laid args.units.now args.queues.now args.count
+    rw c.done.ensures
+    (told_answer_units_queues (fresh_laid args.units.now args.queues.now args.count
     (count_legal _ c.if-count-lt2.false c.if-count.false) c.if-units-ne-UNITS_BYTES.false c.if-queues-ne-NETWORK_BYTES.false
     (zeros network_words) (length-replicate {A = ℕ} network_words 0)
     (heard_answer_words_queues c.fresh-answer.ensures)
-    c.lay_numbers.ensures)
+    c.lay_numbers.ensures))

@@ -11,5 +11,6 @@ returns-then-units-ne-UNITS_BYTES c =
 pub returns : goal.returns
 returns c =
     let args = c.args in
-    right_asked args.units.now (λ words. state_answer words args.queues.now args.i)
-    c.if-units-ne-UNITS_BYTES.false c.take_numbers.ensures c.state.ensures
+    rw c.test.ensures
+    (right_asked args.units.now (λ words. state_answer words args.queues.now args.i)
+    c.if-units-ne-UNITS_BYTES.false c.take_numbers.ensures c.state.ensures)

@@ -1,11 +1,14 @@
 -- Rule: what `page` prints of a meter: the figures, one a line, then each frame that is held, by its place.
-use Rattle.std.specs.Prelude.{ℕ, List, [], ◌∷◌, ◌++◌}
+-- Order: `found_text`: the line of a place by what is found there (proofs/Paged.antt).
+use Rattle.std.specs.Prelude.{ℕ, List, [], ◌∷◌, ◌++◌, Option, Some, None}
 use Rattle.ground.specs.Bytes.{newline, space}
 use Rattle.std.specs.Prelude.{if◌then◌else◌}
 use Rattle.ground.specs.Limits.{frame_limit}
 use Rattle.ground.specs.Rows.{tab, joined}
 use Rattle.frames.specs.Meter.{Frame, is_held, Meter, frame_at, held_bytes, held_frames}
 use Rattle.frames.specs.MeterTable.{meter_from, fit_metered}
+use Rattle.meter.specs.Reading.{frame_of}
+use Rattle.meter.specs.declared.table.Frame.{Frame as FrameRead}
 use Rattle.texts.specs.Printed.{refused_line, figure_line}
 use Rattle.texts.specs.Texts.{decimal_of, held_word, delivered_word, dropped_word}
 
@@ -49,6 +52,11 @@ frame_line place frame =
 -- The line of a place that holds a frame; none of a free one.
 unfoldable pub place_text : (place : ℕ) → Frame → List ℕ
 place_text place frame = if is_held frame then frame_line place frame else []
+
+-- The same by the frame that is found there, if one is.
+abbrev pub found_text : (place : ℕ) → Option FrameRead → List ℕ
+found_text place (Some frame) = frame_line place (frame_of frame)
+found_text place None = []
 
 -- The lines of the places below a number.
 abbrev pub places_text : Meter → (below : ℕ) → List ℕ

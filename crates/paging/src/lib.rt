@@ -6,16 +6,14 @@ ghost use Rattle.ground.specs.Limits.{frame_limit};
 ghost use Rattle.slices.specs.Putting.{used_after, put_after};
 ghost use Rattle.frames.specs.MeterTable.{meter_words, meter_from};
 ghost use Rattle.meter.specs.Reading.{frame_of};
-ghost use Rattle.paging.specs.Page.{named_text, frame_line, place_text, places_text, figures_text, page_text};
+ghost use Rattle.paging.specs.Page.{named_text, frame_line, found_text, places_text, figures_text, page_text};
 
 use ground::FRAMES;
+use ground::refusals::Refusal;
 use meter::table::{Figure, Frame};
 use meter::{fit, table};
 use slices::bytes;
 use texts::text;
-
-// The refusal of tables that are not fit.
-const UNFIT: u32 = 2;
 
 // A word and a number, each after a space.
 fn put_named(out: &mut [u8], used: usize, name: &[u8], number: u32) -> usize
@@ -43,14 +41,14 @@ fn put_frame(out: &mut [u8], used: usize, place: u32, frame: Frame) -> usize
 }
 
 // The line of a place: none where it is free.
-fn put_place(out: &mut [u8], used: usize, place: u32, frame: Frame) -> usize
-    ensures answer { result ≡ used_after used (place_text place (frame_of frame)) out.old }
-    ensures out { out.new ≡ put_after used (place_text place (frame_of frame)) out.old }
+fn put_place(out: &mut [u8], used: usize, place: u32, found: Option<Frame>) -> usize
+    ensures answer { result ≡ used_after used (found_text place found) out.old }
+    ensures out { out.new ≡ put_after used (found_text place found) out.old }
 {
-    if frame.size == 0 {
-        return used;
+    match found {
+        Some(frame) => put_frame(out, used, place, frame),
+        None => used,
     }
-    put_frame(out, used, place, frame)
 }
 
 // The lines of all places.
@@ -61,7 +59,7 @@ fn put_places(meter: &[u32], out: &mut [u8], used: usize) -> usize
 {
     let mut then = used;
     for place in 0..FRAMES {
-        then = put_place(out, then, place as u32, table::frame_in(meter, place));
+        then = put_place(out, then, place as u32, table::held_at(meter, place));
     }
     then
 }
@@ -105,7 +103,7 @@ pub fn page(words: &[u32], queues: &[u8], meter: &[u32], out: &mut [u8], used: u
     ensures out { out.new ≡ put_after used (page_text words.now queues.now meter.now) out.old }
 {
     if !fit::is_fit(words, queues, meter) {
-        return text::put_refused(out, used, UNFIT);
+        return text::put_refused(out, used, Refusal::Unfit.number());
     }
     let then = put_figures(meter, out, used);
     put_places(meter, out, then)

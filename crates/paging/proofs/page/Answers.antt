@@ -9,7 +9,7 @@ use Rattle.paging.proofs.page.Goals as goal
 pub returns-then-not-is_fit : goal.returns-then-not-is_fit
 unfolding page_text
 returns-then-not-is_fit c =
-    told_answer_out (rw (sym c.is_fit.ensures ∙ c.if-not-is_fit.true) (heard_answer_out c.put_refused.ensures))
+    told_answer_out (rw (sym c.is_fit.ensures ∙ c.if-not-is_fit.true, ← c.number.ensures) (heard_answer_out c.put_refused.ensures))
 
 pub put_figures-then-requires : goal.put_figures-then-requires
 put_figures-then-requires c =

@@ -1,18 +1,15 @@
--- `paging::put_place` meets its contract.
+-- `paging::put_place` meets its contract: each arm puts the line of what was found.
+use mathlib.Core.Path.{sym, ap}
 use Rattle.slices.proofs.Putting.{put_none, put_as}
-use Rattle.meter.specs.Reading.{frame_of}
-use Rattle.paging.proofs.Paged.{place_free, place_held}
+use Rattle.paging.specs.Page.{found_text}
 use Rattle.ground.proofs.Clauses.{heard_answer_out, told_answer_out}
 use Rattle.paging.proofs.put_place.Goals as goal
 
-pub returns-then-frame-eq0 : goal.returns-then-frame-eq0
-returns-then-frame-eq0 c =
-    let args = c.args in
-    told_answer_out (put_as _ _ (place_free args.place (frame_of args.frame) c.if-frame-eq0.true) (put_none _ _))
-
-pub returns : goal.returns
-returns c =
-    let args = c.args in
+pub returns-in-Some : goal.returns-in-Some
+returns-in-Some c =
     told_answer_out
-    (put_as _ _ (place_held args.place (frame_of args.frame) c.if-frame-eq0.false)
-    (heard_answer_out c.put_frame.ensures))
+    (put_as _ _ (ap (found_text c.args.place) (sym c.in-Some.is)) (heard_answer_out c.put_frame.ensures))
+
+pub returns-in-None : goal.returns-in-None
+returns-in-None c =
+    told_answer_out (put_as _ _ (ap (found_text c.args.place) (sym c.in-None.is)) (put_none _ _))

@@ -1,8 +1,4 @@
 -- The invariant: the lines of the places below `place` are put.
-use Prim.Native.Nat.{◌≤◌}
-use mathlib.Core.Path.{◌≡◌}
-use lib.ListN.{length}
-use Rattle.ground.specs.Limits.{frame_limit}
 use Rattle.slices.proofs.Putting.{Put}
 use Rattle.frames.specs.MeterTable.{meter_from}
 use Rattle.paging.specs.Page.{places_text}
@@ -10,6 +6,4 @@ use Rattle.paging.proofs.put_places.Given as goal
 
 abbrev pub invariant-loop-place : goal.invariant-loop-place
 invariant-loop-place l =
-    (l.place ≤ frame_limit)
-    × (length l.out ≡ length l.initial.out)
-    × Put l.initial.out l.used (places_text (meter_from l.meter) l.place) l.then l.out
+    Put l.initial.out l.used (places_text (meter_from l.meter) l.place) l.then l.out

@@ -11,7 +11,7 @@ use crate::kind::Kind;
 use ground::refusals::Refusal;
 use ground::{CHANGE_BASE, ENTRY_BASE, HIGHEST_COST, REMOVED, UNITS};
 
-// The count is not one that a network has.
+// Refusal 1, of a count that no network has.
 pub(crate) fn check_count(count: u32) -> Result<(), Refusal>
     ensures { refused_as result ≡ (not (legal_count count) gives 1) }
 {

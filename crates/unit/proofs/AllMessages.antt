@@ -2,7 +2,7 @@
 -- legal, that the bytes laid for it are those of the rules, and that there is room for all.
 use Prim.Native.Nat.{ℕ, ◌+◌, ◌≤◌, ◌<◌}
 use native.Mathlib.Omega.{arith}
-use mathlib.Core.Bool.{Bool, true, false}
+use mathlib.Core.Bool.{Bool, true, false, not, ◌&&◌, ◌||◌}
 use mathlib.Core.List.{List, []}
 use mathlib.Core.Logic.{◌≢◌, ⊎_elim}
 use mathlib.Core.Path.{◌≡◌, refl, sym, ap, ◌∙◌}
@@ -10,7 +10,8 @@ use borrow.Author.Tests.{eq-eqb, ne_eqb}
 use lib.Dec.{eqb}
 use lib.ListN.{length, take}
 use lib.Seq.{get_or-take}
-use Rattle.std.specs.Prelude.{if◌then◌else◌}
+use Rattle.std.specs.Option.{option_eq}
+use Rattle.std.specs.Prelude.{Option, Some, unwrap_or, if◌then◌else◌}
 use Rattle.ground.specs.Limits.{unit_limit, message_room, firmware_room}
 use Rattle.ground.specs.Rows.{at, tab, zeros, joined}
 use Rattle.tree.specs.Tree.{is_tree}
@@ -33,7 +34,7 @@ use Rattle.rules.specs.Event.{is_sent_update, differences_for, message_to}
 use Rattle.unit.specs.Sending.{Small, listed, kind_for, bytes_to, Sendable, SendableAll, sent_bytes}
 use Rattle.state.specs.declared.held.Held.{Held}
 use Rattle.unit.specs.declared.send.Changes.{Changes}
-use Rattle.unit.proofs.LaidMessages.{sent_to, list_in, list_fits, list_back, bytes_outgoing}
+use Rattle.unit.proofs.LaidMessages.{is_given, sent_to, list_in, list_fits, list_back, bytes_outgoing}
 
 -- The changes that the code picks for a neighbour.
 abbrev pub picked : (sent is_new : Bool) (whole some : Changes) → Changes
@@ -52,6 +53,23 @@ picked_back : (sent is_new : Bool) {whole some : Changes} (xs ys : List ℕ) →
 picked_back true true xs ys w s = list_back xs w
 picked_back true false xs ys w s = list_back ys s
 picked_back false is_new xs ys w s = list_back [] refl
+
+-- What the code finds for neighbour k, where the new neighbour and the one that is owed may be none.
+module _ (n k : ℕ) (below : k < n) (costs : List ℕ) (isChanged : Bool) (new : Option ℕ) {is_new sent : Bool}
+    (e : is_new ≡ option_eq eqb new (Some k)) (s : sent ≡ not (eqb (at costs k) 0) && (isChanged || is_new)) where
+  new_as : is_new ≡ eqb k (unwrap_or new n)
+  new_as = e ∙ is_given new n k below
+
+  sent_as : sent ≡ sent_to costs isChanged (unwrap_or new n) k
+  sent_as = s ∙ ap (λ (t : Bool). not (eqb (at costs k) 0) && (isChanged || t)) new_as
+
+  pub picked_as : (whole some : Changes) {changes : Changes} → changes ≡ picked sent is_new whole some
+      → changes ≡ picked (sent_to costs isChanged (unwrap_or new n) k) (eqb k (unwrap_or new n)) whole some
+  picked_as whole some p = p ∙ rw (sent_as, new_as)
+
+  pub kind_as : (owed : Option ℕ) {owes : Bool} {number : ℕ} → owes ≡ option_eq eqb owed (Some k) → number ≡ kind_for sent owes
+      → number ≡ kind_for (sent_to costs isChanged (unwrap_or new n) k) (eqb k (unwrap_or owed n))
+  kind_as owed f p = p ∙ rw (sent_as, f, is_given owed n k below)
 
 -- The bytes that the code lays for neighbour k, from what it holds before its loop.
 unfoldable pub bytes_for : (isChanged : Bool) (new owed me : ℕ) (costs : List ℕ) (some whole : Changes) (k : ℕ) → List ℕ

@@ -8,11 +8,12 @@ use mathlib.Core.Bool.{Bool, true, false, not, ◌&&◌, ◌||◌}
 use mathlib.Core.List.{List, [], ◌∷◌, ◌++◌, append-nil}
 use mathlib.Core.Logic.{◌≢◌}
 use mathlib.Core.Path.{◌≡◌, refl, sym, ap, ◌∙◌}
-use borrow.Author.Tests.{eq-eqb, ne_eqb, le-ltb}
+use borrow.Author.Tests.{eqb-true, eq-eqb, ne_eqb, le-ltb}
 use lib.Dec.{eqb}
 use lib.ListN.{length, set, take, drop, length-append, length-set, take-append-drop}
 use lib.Seq.{take-suc-set, drop-set-lt, append_snoc, take-append_seam, drop-append-add, drop-drop}
-use Rattle.std.specs.Prelude.{Option, Some, Result, Ok, Err, if◌then◌else◌}
+use Rattle.std.specs.Option.{option_eq}
+use Rattle.std.specs.Prelude.{Option, None, Some, Result, Ok, Err, unwrap_or, if◌then◌else◌}
 use Rattle.ground.specs.Limits.{unit_limit, entry_limit, message_room}
 use Rattle.ground.specs.Refusal.{accepted, answer_base}
 use Rattle.ground.specs.Rows.{at, tab, zeros, filled, joined, laid_after}
@@ -29,6 +30,7 @@ use Rattle.ground.proofs.Answers.{number_below}
 use Rattle.ground.proofs.Filled.{filled_more, take_filled}
 use Rattle.ground.proofs.Joined.{joined_more}
 use Rattle.ground.proofs.Limits.{count_legal}
+use Rattle.ground.proofs.Tests.{same_tests}
 use Rattle.rules.proofs.Differences.{differences_most, differences_same, differences_other}
 use Rattle.rules.proofs.LegalMessages.{legal_of}
 use Rattle.rules.proofs.Written.{written-length}
@@ -177,6 +179,14 @@ laid_more k f buffer {used} {used'} {out} {out'} bytes told same u o =
 -- Whether neighbour k is sent an update, as the code tests it.
 abbrev pub sent_to : (costs : List ℕ) (isChanged : Bool) (new k : ℕ) → Bool
 sent_to costs isChanged new k = not (eqb (at costs k) 0) && (isChanged || eqb k new)
+
+-- Whether k is the unit that is given, where it is below the count that stands for none.
+same_unit : (j k : ℕ) → eqb j k ≡ eqb k j
+same_unit j k = same_tests (eqb j k) (eqb k j) (λ e. eq-eqb k j (sym (eqb-true j k e))) (λ e. eq-eqb j k (sym (eqb-true k j e)))
+
+pub is_given : (given : Option ℕ) (n k : ℕ) → k < n → option_eq eqb given (Some k) ≡ eqb k (unwrap_or given n)
+is_given None n k below = sym (ne_eqb k n (λ e. omega arith))
+is_given (Some j) n k below = same_unit j k
 
 -- The changes that an array and their number hold.
 abbrev pub list_in : Changes → List ℕ

@@ -8,6 +8,7 @@ use mathlib.Core.Path.{◌≡◌, refl, sym, ap, ◌∙◌}
 use borrow.Author.Tests.{eqb-true, not-false}
 use lib.Dec.{eqb, leb}
 use lib.ListN.{take}
+use Rattle.std.specs.Prelude.{Option, None, Some, unwrap_or}
 use Rattle.ground.specs.Refusal.{accepted, ◌gives◌, ◌otherwise◌}
 use Rattle.ground.specs.Refused.{number_of}
 use Rattle.ground.specs.declared.refusals.Refusal.{Refusal}
@@ -22,9 +23,8 @@ use Rattle.message.specs.Kind.{kind_number}
 use Rattle.message.specs.declared.reader.Header.{Header}
 use Rattle.state.specs.Holding.{held_of, unit_of}
 use Rattle.state.specs.declared.held.Held.{Held}
-use Rattle.unit.specs.Calls.{first_refusal, content_refusal, noted_by}
+use Rattle.unit.specs.Calls.{first_refusal, content_refusal, NotedBy}
 use Rattle.unit.specs.declared.calls.Call.TheVariants.{Message as FromNeighbour}
-use Rattle.unit.specs.declared.calls.Noted.{Noted}
 use Rattle.ground.proofs.Lists.{parts}
 use Rattle.ground.proofs.Answers.{refusal_first}
 use Rattle.ground.proofs.Refusal.{gives_none, otherwise_none, rest_counts, in_a_row}
@@ -105,20 +105,27 @@ module _ (h : Held) (from : ℕ) (bytes : List ℕ) (sent : (message_of bytes).s
   same_message = λ i. record { kind = t.of_kind i; sender = sym sent i; changes = t.part i }
 
   -- The one who is owed, by whether there is an update.
-  abbrev Owed : (owed : ℕ) → Type 0
+  abbrev Owed : Option ℕ → Type 0
   Owed owed =
-      ((false ≡ leb update (kind_number header.kind)) × (owed ≡ h.count))
-      ⊎ ((true ≡ leb update (kind_number header.kind)) × (owed ≡ from))
+      ((true ≡ leb update (kind_number header.kind)) × (owed ≡ Some from))
+      ⊎ ((false ≡ leb update (kind_number header.kind)) × (owed ≡ None))
 
-  owed_by : {owed : ℕ} → Owed owed → owed ≡ owed_of h.count (received (message_of bytes))
-  owed_by (inl q) = q.1 ∙ sym (if_false (holds_update (message_of bytes)) _ _ (ap (leb update) (sym t.of_kind) ∙ sym q.0))
-  owed_by (inr q) = q.1 ∙ sym sent ∙ sym (if_true (holds_update (message_of bytes)) _ _ (ap (leb update) (sym t.of_kind) ∙ sym q.0))
+  owed_by : {owed : Option ℕ} → Owed owed → unwrap_or owed h.count ≡ owed_of h.count (received (message_of bytes))
+  owed_by (inl q) =
+      ap (λ (o : Option ℕ). unwrap_or o h.count) q.1
+      ∙ sym sent
+      ∙ sym (if_true (holds_update (message_of bytes)) _ _ (ap (leb update) (sym t.of_kind) ∙ sym q.0))
+  owed_by (inr q) =
+      ap (λ (o : Option ℕ). unwrap_or o h.count) q.1
+      ∙ sym (if_false (holds_update (message_of bytes)) _ _ (ap (leb update) (sym t.of_kind) ∙ sym q.0))
 
   pub taken_noted : {after : Held}
       → after ≡ held_of (noted (unit_of h) (received (fields_of (kind_number header.kind) from (take header.entries changes))))
-      → {owed : ℕ} → Owed owed
-      → ◌≡◌ {A = Noted} (record { unit = after; new = h.count; owed = owed }) (noted_by h (FromNeighbour from) bytes)
+      → {owed : Option ℕ} → Owed owed
+      → NotedBy h (FromNeighbour from) bytes (record { unit = after; new = None; owed = owed })
   taken_noted e o =
-      let unit = e ∙ ap (λ (m : Message). held_of (noted (unit_of h) (received m))) same_message in
-      let owed = owed_by o in
-      λ i. record { unit = unit i; new = h.count; owed = owed i }
+      record {
+        unit = e ∙ ap (λ (m : Message). held_of (noted (unit_of h) (received m))) same_message;
+        new = refl;
+        owed = owed_by o;
+      }

@@ -8,6 +8,7 @@ use mathlib.Core.Logic.{◌≢◌, ◌⊎◌, inl, inr, ⊎_elim}
 use mathlib.Core.Path.{◌≡◌, refl, sym, ap, ◌∙◌}
 use borrow.Author.Tests.{leb-true, le-leb}
 use lib.Dec.{leb}
+use Rattle.std.specs.Prelude.{unwrap_or}
 use Rattle.ground.specs.Limits.{unit_limit, firmware_room, legal_cost, highest_cost}
 use Rattle.ground.specs.Refusal.{accepted}
 use Rattle.rules.specs.Event.{Event, noted, new_of, owed_of, reaction_by}
@@ -18,7 +19,7 @@ use Rattle.rules.specs.Unit.{Unit, is_active, fit_unit}
 use Rattle.state.specs.Holding.{held_of, unit_of, held_from}
 use Rattle.state.specs.declared.held.Held.{Held}
 use Rattle.unit.specs.Calls.{call_of, end_of, MessageFrom, Notable}
-use Rattle.unit.specs.Calls.{noted_by}
+use Rattle.unit.specs.Calls.{NotedBy}
 use Rattle.unit.specs.Reacted.{FitHeld}
 use Rattle.unit.specs.declared.calls.Call.{Call}
 use Rattle.unit.specs.declared.calls.Call.TheVariants.{Up, Cost, Down, Message}
@@ -31,7 +32,7 @@ use Rattle.rules.proofs.Fit.{fit_unit_shaped}
 use Rattle.rules.proofs.FitUnit.{FitFacts, facts_fit, fit_table_facts}
 use Rattle.rules.proofs.Laid.{ShapedUnit}
 use Rattle.rules.proofs.Noted.{up_fit, cost_fit, down_fit}
-use Rattle.rules.proofs.Reacting.{reaction-by, noted_me}
+use Rattle.rules.proofs.Reacting.{reaction-by, noted_count, noted_me}
 use Rattle.state.proofs.Holding.{holds_back}
 use Rattle.state.proofs.Tables.{held_fit}
 use Rattle.unit.proofs.HeldFit.{fit_held}
@@ -92,19 +93,26 @@ module _ (words : List ℕ) (room : ℕ) (call : Call) (bytes : List ℕ) (here 
         message = rw count here.message;
       }
 
-  module _ {done : Noted} (p : done ≡ noted_by loaded call bytes) where
+  module _ {done : Noted} (p : NotedBy loaded call bytes done) where
     noted_held : done.unit ≡ held_of (noted u event)
-    noted_held = ap (λ (x : Noted). x.unit) p ∙ ap (λ (v : Unit). held_of (noted v event)) unit
+    noted_held = p.unit ∙ ap (λ (v : Unit). held_of (noted v event)) unit
 
     -- They hold a fit unit then.
     pub ready : FitHeld done.unit
     ready = rw noted_held (fit_held (noted u event) (noted_shaped u shaped event) here.fitted)
 
-    owed : done.owed ≡ owed_of u.count event
-    owed = ap (λ (x : Noted). x.owed) p ∙ ap (λ (n : ℕ). owed_of n event) count
+    -- Where there is nobody, the count says so.
+    same_count : done.unit.count ≡ loaded.count
+    same_count = ap (λ (h : Held). h.count) noted_held ∙ noted_count u event ∙ sym count
+
+    new : unwrap_or done.new done.unit.count ≡ new_of u.count event
+    new = ap (unwrap_or done.new) same_count ∙ p.new ∙ ap (λ (n : ℕ). new_of n event) count
+
+    owed : unwrap_or done.owed done.unit.count ≡ owed_of u.count event
+    owed = ap (unwrap_or done.owed) same_count ∙ p.owed ∙ ap (λ (n : ℕ). owed_of n event) count
 
     -- Nobody is owed but another unit.
-    pub owed_other : done.owed ≢ done.unit.me
+    pub owed_other : unwrap_or done.owed done.unit.count ≢ done.unit.me
     owed_other same =
         let me : done.unit.me ≡ u.me = ap (λ (h : Held). h.me) noted_held ∙ noted_me u event in
         ⊎_elim
@@ -114,16 +122,17 @@ module _ (words : List ℕ) (room : ℕ) (call : Call) (bytes : List ℕ) (here 
 
     -- The code's reaction is the rules'.
     pub same_reaction : {was : Bool} → was ≡ (leb loaded.count unit_limit && is_active (unit_of loaded))
-        → reaction_by (unit_of done.unit) was done.new done.owed ≡ table_reaction words (call_of call bytes)
+        → reaction_by (unit_of done.unit) was (unwrap_or done.new done.unit.count) (unwrap_or done.owed done.unit.count)
+        ≡ table_reaction words (call_of call bytes)
     same_reaction {was} w =
         let active : was ≡ is_active u = w ∙ ap (λ (h : Held). leb h.count unit_limit && is_active (unit_of h)) held
         ∙ rw (le-leb u.count unit_limit facts.high) (ap is_active (holds_back u shaped)) in
-        let new : done.new ≡ new_of u.count event = ap (λ (x : Noted). x.new) p ∙ ap (λ (n : ℕ). new_of n event) count in
         let after : unit_of done.unit ≡ noted u event =
         ap unit_of noted_held ∙ holds_back (noted u event) (noted_shaped u shaped event) in
-        ap (λ (v : Unit). reaction_by v was done.new done.owed) after
-        ∙ ap (λ (t : Bool). reaction_by (noted u event) t done.new done.owed) active
-        ∙ ap (λ (k : ℕ). reaction_by (noted u event) (is_active u) k done.owed) new
+        let owes = unwrap_or done.owed done.unit.count in
+        ap (λ (v : Unit). reaction_by v was (unwrap_or done.new done.unit.count) owes) after
+        ∙ ap (λ (t : Bool). reaction_by (noted u event) t (unwrap_or done.new done.unit.count) owes) active
+        ∙ ap (λ (k : ℕ). reaction_by (noted u event) (is_active u) k owes) new
         ∙ ap (reaction_by (noted u event) (is_active u) (new_of u.count event)) owed
         ∙ sym (reaction-by u event)
 

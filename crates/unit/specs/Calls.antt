@@ -1,7 +1,7 @@
 -- Order: a unit's calls as the code has them, and what step A makes of one; and the refusals of calls in parts: those about the
 -- table and the link's ends, those about the link, and those of a message's content. proofs/LinkRefusals.antt and
 -- proofs/MessageCalls.antt show that together they are `table_refusal`.
-use Rattle.std.specs.Prelude.{ℕ, ◌<◌, Bool, true, not, ◌&&◌, List, ◌≡◌, eqb}
+use Rattle.std.specs.Prelude.{ℕ, ◌<◌, Bool, true, not, ◌&&◌, List, ◌≡◌, eqb, unwrap_or}
 use Rattle.ground.specs.Limits.{legal_count}
 use Rattle.ground.specs.Refusal.{accepted, ◌gives◌, ◌otherwise◌}
 use Rattle.ground.specs.Rows.{at}
@@ -68,11 +68,8 @@ pub record Notable (h : Held) (call : Call) (bytes : List ℕ) : Type 0 where
   pub below : end_of call < h.count
   pub message : MessageFrom h.count call bytes
 
--- What it leaves.
-abbrev pub noted_by : Held → Call → (bytes : List ℕ) → Noted
-noted_by h call bytes =
-    record {
-      unit = held_of (noted (unit_of h) (event_of (call_of call bytes)));
-      new = new_of h.count (event_of (call_of call bytes));
-      owed = owed_of h.count (event_of (call_of call bytes));
-    }
+-- What it leaves: the rules have the count where there is no neighbour.
+pub record NotedBy (h : Held) (call : Call) (bytes : List ℕ) (done : Noted) : Type 0 where
+  pub unit : done.unit ≡ held_of (noted (unit_of h) (event_of (call_of call bytes)))
+  pub new : unwrap_or done.new h.count ≡ new_of h.count (event_of (call_of call bytes))
+  pub owed : unwrap_or done.owed h.count ≡ owed_of h.count (event_of (call_of call bytes))

@@ -1,13 +1,13 @@
 // The calls of one unit, over the table of numbers that the caller lends. A refusal leaves the table and the buffer as they came;
 // an accepted call answers the bytes used in the buffer.
-ghost use Rattle.std.specs.Prelude.{◌≡◌, ◌≤◌, IfOk, length};
+ghost use Rattle.std.specs.Prelude.{◌≡◌, ◌≤◌, IfOk, length, unwrap_or};
 ghost use Rattle.ground.specs.Limits.{firmware_room};
 ghost use Rattle.ground.specs.Refused.{answer_of};
 ghost use Rattle.rules.specs.Event.{reaction_by};
 ghost use Rattle.rules.specs.Hub.{table_answer, table_after, buffer_after, outgoing, outgoing_laid};
 ghost use Rattle.rules.specs.Tables.{unit_words, laid_unit};
 ghost use Rattle.state.specs.Holding.{unit_of};
-ghost use Rattle.unit.specs.Calls.{call_of, Notable, noted_by};
+ghost use Rattle.unit.specs.Calls.{call_of, Notable, NotedBy};
 ghost use Rattle.unit.specs.Reacted.{FitHeld};
 ghost use Rattle.unit.specs.declared.calls.Call.TheVariants.{Message};
 
@@ -27,39 +27,37 @@ pub enum Call {
     Message { from: u32 },
 }
 
-// What step A leaves: the unit, the neighbour whose link came up, and the one whose update is to be acknowledged, each the
-// count where there is none.
+// What step A leaves: the unit, the neighbour whose link came up, and the one whose update is to be acknowledged.
 #[derive(Clone, Copy)]
 pub struct Noted {
     pub unit: Held,
-    pub new: usize,
-    pub owed: usize,
+    pub new: Option<usize>,
+    pub owed: Option<usize>,
 }
 
 // Step A of a message that nothing refuses.
 fn take(unit: Held, from: u32, bytes: &[u8]) -> Noted
     requires { Notable unit (Message from) bytes.now }
-    ensures { result ≡ noted_by unit (Message from) bytes.now }
+    ensures { NotedBy unit (Message from) bytes.now result }
 {
-    let count = unit.count;
-    let read = reader::read(count as u32, bytes);
+    let read = reader::read(unit.count as u32, bytes);
     let Ok(header) = read.answer else {
         // No refusal is left to pass on: `refusing` read the same bytes.
         return Noted {
             unit,
-            new: count,
-            owed: count,
+            new: None,
+            owed: None,
         };
     };
     let changes = read.changes;
     let owed = if header.kind.updates() {
-        from as usize
+        Some(from as usize)
     } else {
-        count
+        None
     };
     Noted {
         unit: noting::received(unit, header.kind, from as usize, &changes[..header.entries]),
-        new: count,
+        new: None,
         owed,
     }
 }
@@ -67,24 +65,23 @@ fn take(unit: Held, from: u32, bytes: &[u8]) -> Noted
 // Step A of a call that nothing refuses.
 fn note(unit: Held, call: Call, bytes: &[u8]) -> Noted
     requires { Notable unit call bytes.now }
-    ensures { result ≡ noted_by unit call bytes.now }
+    ensures { NotedBy unit call bytes.now result }
 {
-    let count = unit.count;
     match call {
         Call::Up { to, cost } => Noted {
             unit: noting::link_up(unit, to as usize, cost),
-            new: to as usize,
-            owed: count,
+            new: Some(to as usize),
+            owed: None,
         },
         Call::Cost { to, cost } => Noted {
             unit: noting::new_cost(unit, to as usize, cost),
-            new: count,
-            owed: count,
+            new: None,
+            owed: None,
         },
         Call::Down { to } => Noted {
             unit: noting::link_down(unit, to as usize),
-            new: count,
-            owed: count,
+            new: None,
+            owed: None,
         },
         Call::Message { from } => take(unit, from, bytes),
     }
@@ -95,15 +92,15 @@ fn finish(
     table: &mut [u32],
     unit: Held,
     was: bool,
-    new: usize,
-    owed: usize,
+    new: Option<usize>,
+    owed: Option<usize>,
     out: &mut [u8],
 ) -> usize
-    requires { FitHeld unit × (length table.old ≡ unit_words) × ((owed ≡ unit.me) → ⊥) × (firmware_room ≤ length out.old) }
-    ensures answer { result ≡ length (outgoing (reaction_by (unit_of unit) was new owed)) }
+    requires { FitHeld unit × (length table.old ≡ unit_words) × ((unwrap_or owed unit.count ≡ unit.me) → ⊥) × (firmware_room ≤ length out.old) }
+    ensures answer { result ≡ length (outgoing (reaction_by (unit_of unit) was (unwrap_or new unit.count) (unwrap_or owed unit.count))) }
     ensures short { result ≤ firmware_room }
-    ensures table { table.new ≡ laid_unit (reaction_by (unit_of unit) was new owed).unit }
-    ensures sent { out.new ≡ outgoing_laid (reaction_by (unit_of unit) was new owed) out.old }
+    ensures table { table.new ≡ laid_unit (reaction_by (unit_of unit) was (unwrap_or new unit.count) (unwrap_or owed unit.count)).unit }
+    ensures sent { out.new ≡ outgoing_laid (reaction_by (unit_of unit) was (unwrap_or new unit.count) (unwrap_or owed unit.count)) out.old }
 {
     let reacted = event::react(unit, was, new, owed, out);
     let after = reacted.unit;

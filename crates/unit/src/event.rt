@@ -1,5 +1,5 @@
 // Steps B to F of one event, on the arrays of a unit whose tables step A has changed.
-ghost use Rattle.std.specs.Prelude.{◌≡◌, not, ◌≤◌, length, take};
+ghost use Rattle.std.specs.Prelude.{◌≡◌, not, ◌≤◌, length, take, unwrap_or};
 ghost use Rattle.std.specs.Prelude.{if◌then◌else◌};
 ghost use Rattle.ground.specs.Limits.{unit_limit, firmware_room};
 ghost use Rattle.ground.specs.Rows.{same, filled};
@@ -156,25 +156,31 @@ fn new_awaited(
     costs: [u32; UNITS],
     awaited: [u32; UNITS],
     changed: bool,
-    new: usize,
+    new: Option<usize>,
 ) -> [u32; UNITS]
     requires { count ≤ unit_limit }
-    ensures { result ≡ filled unit_limit (awaited_row count costs awaited changed new) }
+    ensures { result ≡ filled unit_limit (awaited_row count costs awaited changed (unwrap_or new count)) }
 {
     let mut row = [0u32; UNITS];
     for k in 0..count {
-        row[k] = wait(costs[k], awaited[k], changed, k == new);
+        row[k] = wait(costs[k], awaited[k], changed, new == Some(k));
     }
     row
 }
 
 // The whole of steps B to F. `was` says whether the unit was ACTIVE before step A; `new` is the neighbour whose link came
-// up, `owed` the one that is owed an acknowledgment, each the count where there is none.
-pub(crate) fn react(unit: Held, was: bool, new: usize, owed: usize, out: &mut [u8]) -> Reacted
-    requires { FitHeld unit × ((owed ≡ unit.me) → ⊥) × (firmware_room ≤ length out.old) }
-    ensures reacted { result ≡ reacted_of (unit_of unit) was new owed }
+// up, `owed` the one that is owed an acknowledgment.
+pub(crate) fn react(
+    unit: Held,
+    was: bool,
+    new: Option<usize>,
+    owed: Option<usize>,
+    out: &mut [u8],
+) -> Reacted
+    requires { FitHeld unit × ((unwrap_or owed unit.count ≡ unit.me) → ⊥) × (firmware_room ≤ length out.old) }
+    ensures reacted { result ≡ reacted_of (unit_of unit) was (unwrap_or new unit.count) (unwrap_or owed unit.count) }
     ensures short { result.used ≤ firmware_room }
-    ensures sent { out.new ≡ reacted_out (unit_of unit) was new owed out.old }
+    ensures sent { out.new ≡ reacted_out (unit_of unit) was (unwrap_or new unit.count) (unwrap_or owed unit.count) out.old }
 {
     let count = unit.count;
     let costs = unit.costs;

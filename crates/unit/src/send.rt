@@ -1,5 +1,5 @@
 // The messages of an event, laid into the lent buffer one after the other.
-ghost use Rattle.std.specs.Prelude.{not, ◌&&◌, ◌||◌, [], ◌≡◌, ◌+◌, ◌≤◌, ◌<◌, eqb, length, take};
+ghost use Rattle.std.specs.Prelude.{not, ◌&&◌, ◌||◌, [], ◌≡◌, ◌+◌, ◌≤◌, ◌<◌, eqb, length, take, unwrap_or};
 ghost use Rattle.ground.specs.Rows.{laid_after};
 ghost use Rattle.std.specs.Prelude.{if◌then◌else◌};
 ghost use Rattle.ground.specs.Limits.{unit_limit, change_base, firmware_room};
@@ -112,14 +112,14 @@ pub(crate) fn send(
     unit: Held,
     tree: [u32; UNITS],
     changed: bool,
-    new: usize,
-    owed: usize,
+    new: Option<usize>,
+    owed: Option<usize>,
     out: &mut [u8],
 ) -> usize
-    requires { SendableAll unit tree changed owed (length out.old) }
-    ensures answer { result ≡ length (sent_bytes (unit_of unit) (take unit.count tree) new owed) }
+    requires { SendableAll unit tree changed (unwrap_or owed unit.count) (length out.old) }
+    ensures answer { result ≡ length (sent_bytes (unit_of unit) (take unit.count tree) (unwrap_or new unit.count) (unwrap_or owed unit.count)) }
     ensures short { result ≤ firmware_room }
-    ensures laid { out.new ≡ laid_after 0 (sent_bytes (unit_of unit) (take unit.count tree) new owed) out.old }
+    ensures laid { out.new ≡ laid_after 0 (sent_bytes (unit_of unit) (take unit.count tree) (unwrap_or new unit.count) (unwrap_or owed unit.count)) out.old }
 {
     let count = unit.count;
     let me = unit.me;
@@ -129,11 +129,12 @@ pub(crate) fn send(
     let whole = differences(count, [0u32; UNITS], tree);
     let mut used = 0;
     for k in 0..count {
-        let sent = is_sent(costs[k], changed, k == new);
-        let changes = changes_for(sent, k == new, whole, some);
+        let is_new = new == Some(k);
+        let sent = is_sent(costs[k], changed, is_new);
+        let changes = changes_for(sent, is_new, whole, some);
         let number = changes.number;
         let list = changes.list;
-        let kind = kind_for(sent, k == owed);
+        let kind = kind_for(sent, owed == Some(k));
         used = lay_one(count, me, k, kind, &list[..number], out, used);
     }
     used

@@ -1,10 +1,11 @@
 -- `unit::calls::note` meets its contract: each call's event is noted by its own function.
 use Prim.Native.Nat.{ℕ}
 use mathlib.Core.List.{List}
-use mathlib.Core.Path.{◌≡◌, sym, ap, ◌∙◌}
+use mathlib.Core.Path.{◌≡◌, refl}
 use Rattle.state.specs.declared.held.Held.{Held}
-use Rattle.unit.specs.Calls.{Notable, noted_by}
+use Rattle.unit.specs.Calls.{Notable, NotedBy}
 use Rattle.unit.specs.declared.calls.Call.{Call}
+use Rattle.unit.specs.declared.calls.Noted.{Noted}
 use Rattle.unit.proofs.calls.note.Goals as goal
 
 -- What is asked of a call that is known.
@@ -13,9 +14,9 @@ asked : (unit : Held) (bytes : List ℕ) {made call : Call} → Notable unit mad
 asked unit bytes notable e = rw e at notable
 
 -- What a call that is known leaves.
-by_call : (unit : Held) (bytes : List ℕ) {made call : Call} → made ≡ call
-    → noted_by unit call bytes ≡ noted_by unit made bytes
-by_call unit bytes e = ap (λ (call : Call). noted_by unit call bytes) (sym e)
+by_call : (unit : Held) (bytes : List ℕ) {made call : Call} {done : Noted} → made ≡ call
+    → NotedBy unit call bytes done → NotedBy unit made bytes done
+by_call unit bytes {made} {call} {done} e told = rw e told
 
 pub link_up-requires : goal.link_up-requires
 link_up-requires c =
@@ -37,18 +38,15 @@ take-requires c = asked c.args.unit c.args.bytes.now c.requires c.in-Message.is
 
 pub returns-in-Up : goal.returns-in-Up
 returns-in-Up c =
-    (λ i. record { unit = c.link_up.ensures i; new = c.in-Up.to; owed = c.args.unit.count })
-    ∙ by_call c.args.unit c.args.bytes.now c.in-Up.is
+    by_call c.args.unit c.args.bytes.now c.in-Up.is (record { unit = c.link_up.ensures; new = refl; owed = refl })
 
 pub returns-in-Cost : goal.returns-in-Cost
 returns-in-Cost c =
-    (λ i. record { unit = c.new_cost.ensures i; new = c.args.unit.count; owed = c.args.unit.count })
-    ∙ by_call c.args.unit c.args.bytes.now c.in-Cost.is
+    by_call c.args.unit c.args.bytes.now c.in-Cost.is (record { unit = c.new_cost.ensures; new = refl; owed = refl })
 
 pub returns-in-Down : goal.returns-in-Down
 returns-in-Down c =
-    (λ i. record { unit = c.link_down.ensures i; new = c.args.unit.count; owed = c.args.unit.count })
-    ∙ by_call c.args.unit c.args.bytes.now c.in-Down.is
+    by_call c.args.unit c.args.bytes.now c.in-Down.is (record { unit = c.link_down.ensures; new = refl; owed = refl })
 
 pub returns-in-Message : goal.returns-in-Message
-returns-in-Message c = c.take.ensures ∙ by_call c.args.unit c.args.bytes.now c.in-Message.is
+returns-in-Message c = by_call c.args.unit c.args.bytes.now c.in-Message.is c.take.ensures

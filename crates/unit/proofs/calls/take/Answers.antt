@@ -8,8 +8,8 @@ use Rattle.unit.proofs.MessageCalls.{taken_noted}
 use Rattle.unit.proofs.calls.take.Goals as goal
 use Rattle.unit.proofs.calls.take.Goals.{then-updates, else-updates}
 
-pub overflow_cast-count : goal.overflow_cast-count
-overflow_cast-count c = omega (arith, c.requires.padded.count)
+pub overflow_cast-unit : goal.overflow_cast-unit
+overflow_cast-unit c = omega (arith, c.requires.padded.count)
 
 pub returns-in_default : goal.returns-in_default
 returns-in_default c =
@@ -38,6 +38,6 @@ returns c =
     (taken _ c.args.bytes.now c.read-read.result (heard_answer_changes c.read-read.ensures) c.in-Ok.header c.in-Ok.is)
     c.received.ensures
     (elim c.if-updates.branch [
-      | then-updates w ↦ inr (w.if-updates.ensures, w.owed-is)
-      | else-updates w ↦ inl (w.if-updates.ensures, w.owed-is)
+      | then-updates w ↦ inl (w.if-updates.ensures, w.owed-is)
+      | else-updates w ↦ inr (w.if-updates.ensures, w.owed-is)
     ])

@@ -1,6 +1,7 @@
 -- `unit::event::react` meets its contract: the pieces, composed, are steps B to F.
 use mathlib.Core.Bool.{◌&&◌}
 use mathlib.Core.Path.{◌≡◌, ◌∙◌}
+use Rattle.std.specs.Prelude.{unwrap_or}
 use Rattle.rules.specs.Event.{changed, new_tree}
 use Rattle.rules.specs.Tables.{laid_row}
 use Rattle.state.specs.Holding.{unit_of}
@@ -52,8 +53,8 @@ unfolding changed
 returns c =
     let unit = c.args.unit in
     let was = c.args.was in
-    let new = c.args.new in
-    let owed = c.args.owed in
+    let new = unwrap_or c.args.new unit.count in
+    let owed = unwrap_or c.args.owed unit.count in
     let fit = c.requires.0 in
     let tree = tree_is (goal.at.returns c).After-new_tree-tree in
     record {

@@ -5,12 +5,11 @@ use native.Mathlib.Nat.{add-zero}
 use native.Mathlib.Omega.{arith}
 use mathlib.Core.List.{List, [], ◌∷◌, ◌++◌, map, append-nil, append_assoc}
 use mathlib.Core.Path.{◌≡◌, refl, sym, ap, ap₂, ◌∙◌}
-use lib.ListN.{length, get_or, set, take, drop, length-drop, length-map, take-append-drop}
+use lib.ListN.{length, set, take, drop, length-drop, length-map, take-append-drop}
 use lib.Seq.{paste, take_all, take-append-add, drop-append-add, drop-drop}
 use Rattle.ground.specs.Limits.{frame_limit}
 use Rattle.ground.specs.Rows.{at, tab, joined, zeros}
 use Rattle.ground.proofs.Lists.{Under, Blocks, at_from, map_at, map_tab, map_blocks, map_length, tab_part, joined_parts}
-use Rattle.ground.proofs.Nothing.{joined_zeros}
 use Rattle.ground.proofs.Places.{block_at}
 use Rattle.ground.proofs.Rows.{length_tab, tab_at, tab_ext, tab_row}
 use Rattle.ground.proofs.Stored.{map_set, block_stored}

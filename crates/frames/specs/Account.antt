@@ -1,7 +1,7 @@
 -- Rule: "Bytes entered equal bytes delivered, dropped and held after any sequence, each figure defined from the accepted calls."
 -- Each accepted `enters` is one frame; the accepted calls after it tell what became of it. The four figures are sums over these
 -- calls, of the sizes of all frames, and of those that were delivered, that were dropped and that are still held.
-use Rattle.std.specs.Prelude.{ℕ, ◌+◌, Bool, true, false, ◌&&◌, List, [], ◌∷◌, eqb}
+use Rattle.std.specs.Prelude.{ℕ, ◌+◌, Bool, true, false, List, [], ◌∷◌, eqb}
 use Rattle.std.specs.Prelude.{if◌then◌else◌}
 use Rattle.frames.specs.Meter.{MeterCall, enters, moves, drops, Fate, as_held, as_delivered, as_dropped}
 

@@ -1,15 +1,14 @@
 -- Answers by `Result` and their numbers: no two refusals have one number, none has that of an accepted answer, and so a number says
 -- which answer it is.
-use Prim.Native.Nat.{ℕ, ◌+◌, ◌≤◌, ◌<◌}
+use Prim.Native.Nat.{ℕ, ◌<◌}
 use native.Mathlib.Omega.{arith}
 use mathlib.Core.Bool.{Bool, true, false}
-use mathlib.Core.Logic.{◌≢◌, ◌⊎◌, ⊎_elim}
+use mathlib.Core.Logic.{◌≢◌}
 use mathlib.Core.Path.{◌≡◌, refl, sym, ap, ◌∙◌}
 use lib.Dec.{eqb}
 use Rattle.std.specs.Prelude.{Result, Ok, Err, if◌then◌else◌}
-use Rattle.ground.specs.Limits.{far, longest}
 use Rattle.ground.specs.Refusal.{accepted, answer_base, ◌otherwise◌}
-use Rattle.ground.specs.Refused.{number_of, refused_as, answer_of, done_of, test_of, reached_of}
+use Rattle.ground.specs.Refused.{number_of, refused_as, answer_of, done_of, test_of}
 use Rattle.ground.specs.declared.refusals.Refusal.{Refusal}
 use Rattle.ground.specs.declared.refusals.Refusal.TheVariants.{UnitCount, Unfit, NoUnit, Cost, LinkUp, LinkDown, Room, NoMessage, Message, NotAwaited, ChangesNothing, NotATree, QueueFull, MeterFull, TooManyBytes, Frame}
 use Rattle.ground.proofs.Refusal.{first_counts}

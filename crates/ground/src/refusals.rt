@@ -39,7 +39,7 @@ pub enum Refusal {
 }
 
 impl Refusal {
-    // The number that the tables of refusals have for it (docs/C-API.md).
+    // The number that the tables of refusals have for it (docs/FIRMWARE.md).
     pub fn number(self) -> u32
         ensures { result ≡ number_of self }
     {

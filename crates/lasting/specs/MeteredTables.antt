@@ -1,7 +1,7 @@
 -- Rule: the lent tables of a network and of a meter over it, and what becomes of them "after any sequence": any finite sequence
 -- of network calls and meter calls mixed, with any arguments, refused ones included, each leaving the tables that its contract
 -- gives; the calls of the meter that were accepted; and the units that a frame meets.
-use Rattle.std.specs.Prelude.{ℕ, Bool, ◌&&◌, List, [], ◌∷◌, ◌≡◌, eqb}
+use Rattle.std.specs.Prelude.{ℕ, ◌&&◌, List, [], ◌∷◌, ◌≡◌, eqb}
 use Rattle.std.specs.Prelude.{if◌then◌else◌}
 use Rattle.ground.specs.Refusal.{accepted}
 use Rattle.rules.specs.Network.{Call}

@@ -1,5 +1,5 @@
 -- `events::tell::tell_bytes` meets its contract, by what its callees ensure.
-use mathlib.Core.Path.{◌≡◌, ap, ◌∙◌}
+use mathlib.Core.Path.{ap, ◌∙◌}
 use Rattle.ground.specs.Limits.{firmware_room}
 use Rattle.rules.specs.Hub.{table_answer}
 use Rattle.unit.specs.Calls.{call_of}

@@ -1,24 +1,30 @@
--- What became of a frame is told from the answer of a meter's call: its refusals are small, and so are the places.
-use Prim.Native.Nat.{ℕ, suc, ◌+◌, ◌-◌, ◌<◌}
+-- What became of a frame is told by the answer of a meter's call: its refusals are small, and so are the places.
+use Prim.Native.Nat.{ℕ, suc, ◌+◌, ◌≤◌, ◌<◌}
 use native.Mathlib.Omega.{arith}
 use mathlib.Core.Bool.{not, ◌&&◌}
 use mathlib.Core.List.{List}
-use mathlib.Core.Logic.{◌≢◌, ⊎_elim}
-use mathlib.Core.Path.{◌≡◌, refl}
-use borrow.Author.Tests.{eq-eqb, ne_eqb, eqb-false, lt-ltb, le-ltb}
+use mathlib.Core.Logic.{⊎_elim}
+use mathlib.Core.Path.{◌≡◌, refl, ap, ◌∙◌}
+use borrow.Author.Tests.{eq-eqb, ne_eqb}
 use lib.Dec.{eqb, ltb}
+use Rattle.std.specs.Prelude.{Result, Ok, Err, IfOk, if◌then◌else◌}
 use Rattle.ground.specs.Limits.{frame_limit, legal_size, hop_limit, entered_limit}
 use Rattle.ground.specs.Refusal.{accepted, answer_base}
-use Rattle.std.specs.Prelude.{if◌then◌else◌}
+use Rattle.ground.specs.declared.refusals.Refusal.{Refusal}
+use Rattle.ground.proofs.Answers.{number_below}
 use Rattle.ground.proofs.Choices.{by_choice}
 use Rattle.ground.proofs.Refusal.{gives_below, otherwise_below}
-use Rattle.ground.proofs.Tests.{equal_or_not}
+use Rattle.ground.proofs.Tests.{equal_or_not, if_true, if_false}
 use Rattle.rules.specs.Network.{Network, is_successor_in}
 use Rattle.rules.specs.Tables.{network_from}
 use Rattle.frames.specs.Meter.{is_held, Meter, frame_at, held_frames, free_place}
 use Rattle.frames.specs.Meter.{MeterCall, enters, moves, drops, Fate, as_held, as_delivered, as_dropped, fate, meter_call_refusal}
 use Rattle.frames.specs.MeterTable.{meter_from, fit_metered, meter_refusal, fate_number, meter_answer}
-use Rattle.meter.proofs.Refusals.{held_inside, enters_freely, moves_held}
+use Rattle.meter.specs.Fates.{fate_of, HeldInside}
+use Rattle.meter.specs.declared.calls.Fate.{Fate as Found}
+use Rattle.meter.specs.declared.calls.Fate.TheVariants.{Held, Delivered, Dropped}
+use Rattle.meter.proofs.OneFate.{fate_once}
+use Rattle.meter.proofs.Refusals.{entered_inside, moved_inside}
 use Rattle.texts.specs.Printed.{refused_line}
 use Rattle.script.specs.Acting.{fate_said}
 use Rattle.script.specs.Answers.{fate_text, frame_verdict}
@@ -44,61 +50,92 @@ refusal_small words bytes meter call =
     otherwise_below (gives_below (not (fit_metered words bytes meter)) 2 (omega arith))
     (call_small (network_from words bytes) (meter_from meter) call)
 
--- What a number says of the fate that it stands for.
-abbrev Told : Fate → Type 0
-Told became = fate_said (fate_number became) ≡ fate_text became
+-- What became of a frame, as code has it.
+abbrev as_found : Fate → Found
+as_found (as_held place) = Held place
+as_found as_delivered = Delivered
+as_found as_dropped = Dropped
 
-told_held : (place : ℕ) → place < frame_limit → Told (as_held place)
-told_held place l =
-    let number = answer_base + place in
-    let back : number - answer_base ≡ place = omega arith in
-    simp (
-      le-ltb number answer_base (omega arith),
-      ne_eqb number (fate_number as_dropped) (λ e. omega arith),
-      ne_eqb number (fate_number as_delivered) (λ e. omega arith),
-      back,
-    )
+abbrev Inside : Fate → Type 0
+Inside became = HeldInside (as_found became)
+
+-- Two with one number say the same.
+told : (found : Found) (became : Fate) → HeldInside found → Inside became → fate_of (Ok found) ≡ fate_number became
+    → fate_said (Ok found) ≡ fate_text became
+told found became p q e =
+    ap fate_said (fate_once (Ok found) (Ok (as_found became)) p q (e ∙ number became)) ∙ text became
+  where
+    number : (became : Fate) → fate_number became ≡ fate_of (Ok (as_found became))
+    number (as_held place) = refl
+    number as_delivered = refl
+    number as_dropped = refl
+
+    text : (became : Fate) → fate_said (Ok (as_found became)) ≡ fate_text became
+    text (as_held place) = refl
+    text as_delivered = refl
+    text as_dropped = refl
+
+-- The number of what became of a frame is no refusal's.
+found_high : (found : Found) → answer_base ≤ fate_of (Ok found)
+found_high (Held place) = omega arith
+found_high Delivered = omega arith
+found_high Dropped = omega arith
+
+became_high : (became : Fate) → answer_base ≤ fate_number became
+became_high (as_held place) = omega arith
+became_high as_delivered = omega arith
+became_high as_dropped = omega arith
 
 module _ (words bytes meter : List ℕ) where
-  -- What an accepted call makes of its frame.
-  accepted_told : (call : MeterCall) → meter_refusal words bytes meter call ≡ accepted → Told (fate (meter_from meter) call)
+  -- An accepted call that leaves its frame held leaves it at one of the places.
+  became_inside : (call : MeterCall) → meter_refusal words bytes meter call ≡ accepted → Inside (fate (meter_from meter) call)
   unfolding fate
-  accepted_told (enters size unit destination) none =
-      by_choice Told (eqb unit destination) as_delivered (as_held (free_place (meter_from meter)))
-      (λ t. refl)
-      (λ f. told_held (free_place (meter_from meter)) (enters_freely words bytes meter size unit destination none).1)
-  accepted_told (moves place unit) none =
+  became_inside (enters size unit destination) none =
+      by_choice Inside (eqb unit destination) as_delivered (as_held (free_place (meter_from meter))) (λ t. tt)
+      (λ f. entered_inside words bytes meter size unit destination none refl)
+  became_inside (moves place unit) none =
       let frame = frame_at (meter_from meter) place in
-      by_choice Told (eqb unit frame.destination) as_delivered
+      by_choice Inside (eqb unit frame.destination) as_delivered
       (if ltb (suc frame.hops) hop_limit then as_held place else as_dropped)
-      (λ t. refl)
+      (λ t. tt)
       (λ f.
-      by_choice Told (ltb (suc frame.hops) hop_limit) (as_held place) as_dropped
-      (λ t. told_held place (held_inside meter place (moves_held words bytes meter place unit none).1))
-      (λ g. refl))
-  accepted_told (drops place) none = refl
+      by_choice Inside (ltb (suc frame.hops) hop_limit) (as_held place) as_dropped
+      (λ t. moved_inside words bytes meter place unit none)
+      (λ g. tt))
+  became_inside (drops place) none = tt
 
-  module _ (call : MeterCall) where
-    -- The answer of a call says what became of its frame, or its refusal.
-    pub said_fate : fate_said (meter_answer words bytes meter call) ≡ frame_verdict words bytes meter call
-    unfolding meter_answer
-    said_fate =
-        let refusal = meter_refusal words bytes meter call in
-        ⊎_elim
-        (λ e. rw (eq-eqb refusal accepted e) (accepted_told call e))
-        (λ d. rw (ne_eqb refusal accepted d, lt-ltb refusal answer_base (refusal_small words bytes meter call)))
-        (equal_or_not refusal accepted)
-
-    -- It is never 0.
-    pub answer_some : meter_answer words bytes meter call ≢ 0
-    unfolding meter_answer
-    answer_some =
-        let refusal = meter_refusal words bytes meter call in
-        by_choice (λ (answer : ℕ). answer ≢ 0) (eqb refusal accepted) (fate_number (fate (meter_from meter) call)) refusal
-        (λ t. some (fate (meter_from meter) call))
-        (λ f. eqb-false refusal accepted f)
-      where
-        some : (became : Fate) → fate_number became ≢ 0
-        some (as_held place) e = omega arith
-        some as_delivered e = omega arith
-        some as_dropped e = omega arith
+  -- The answer of a call says what became of its frame, or its refusal.
+  pub said_fate : (call : MeterCall) (answer : Result Found Refusal) → IfOk answer (λ found. HeldInside found)
+      → fate_of answer ≡ meter_answer words bytes meter call
+      → fate_said answer ≡ frame_verdict words bytes meter call
+  unfolding meter_answer
+  said_fate call (Ok found) inside e =
+      let refusal = meter_refusal words bytes meter call in
+      let became = fate (meter_from meter) call in
+      ⊎_elim
+      (λ none.
+      let free = eq-eqb refusal accepted none in
+      rw free (told found became inside (became_inside call none) (e ∙ if_true _ _ _ free)))
+      (λ some.
+      absurd (omega (
+        arith,
+        found_high found,
+        refusal_small words bytes meter call,
+        e ∙ if_false (eqb refusal accepted) (fate_number became) refusal (ne_eqb refusal accepted some),
+      )))
+      (equal_or_not refusal accepted)
+  said_fate call (Err reason) inside e =
+      let refusal = meter_refusal words bytes meter call in
+      let became = fate (meter_from meter) call in
+      ⊎_elim
+      (λ none.
+      absurd (omega (
+        arith,
+        number_below reason,
+        became_high became,
+        e ∙ if_true (eqb refusal accepted) (fate_number became) refusal (eq-eqb refusal accepted none),
+      )))
+      (λ some.
+      let refused = ne_eqb refusal accepted some in
+      rw refused (ap refused_line (e ∙ if_false _ _ _ refused)))
+      (equal_or_not refusal accepted)

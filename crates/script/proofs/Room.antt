@@ -28,7 +28,6 @@ use Rattle.texts.proofs.Lengths.{state_most, pair_most, refused_most, held_most}
 use Rattle.slices.proofs.Putting.{put_laid}
 use Rattle.listing.specs.Shown.{pair_lines, unit_lines, shown, show_text}
 use Rattle.listing.proofs.ShownUnits.{line_to}
-use Rattle.paging.specs.Page.{page_text}
 use Rattle.paging.proofs.PageRoom.{page_most}
 use Rattle.script.specs.Answers.{verdict, fate_text, frame_verdict, printed, command_with, answer_text, answer_room}
 

@@ -1,15 +1,20 @@
 -- A refusal's number is small, so an answer is told from it, and what the answer prints is the verdict of the rules.
-use Prim.Native.Nat.{ℕ, ◌+◌, ◌≤◌, ◌<◌}
+use Prim.Native.Nat.{ℕ, ◌+◌, ◌<◌}
 use native.Mathlib.Omega.{arith}
 use mathlib.Core.Bool.{not, ◌&&◌}
-use mathlib.Core.List.{List, [], ◌∷◌}
+use mathlib.Core.List.{List}
 use mathlib.Core.Logic.{◌≢◌, ⊎_elim}
 use mathlib.Core.Path.{◌≡◌, refl, sym, ap, ◌∙◌}
-use borrow.Author.Tests.{eq-eqb, ne_eqb, lt-leb}
+use borrow.Author.Tests.{eq-eqb, ne_eqb}
 use lib.Dec.{eqb}
 use lib.ListN.{length}
+use Rattle.std.proofs.lemmas.Option.{none-some}
+use Rattle.std.specs.Prelude.{Option, Some, None, Result, Ok, Err, IfOk, unwrap_or, ⊤}
 use Rattle.ground.specs.Limits.{legal_count, legal_cost}
 use Rattle.ground.specs.Refusal.{accepted, ◌gives◌, answer_base}
+use Rattle.ground.specs.Refused.{done_of}
+use Rattle.ground.specs.declared.refusals.Refusal.{Refusal}
+use Rattle.ground.proofs.Answers.{number_below}
 use Rattle.ground.proofs.Refusal.{gives_below, otherwise_below}
 use Rattle.ground.proofs.Tests.{equal_or_not, if_true, if_false}
 use Rattle.tree.specs.Recompute.{copy_of}
@@ -23,14 +28,16 @@ use Rattle.rules.specs.NetworkTable.{network_refusal, fresh_network_refusal}
 use Rattle.rules.specs.Tables.{network_words, network_bytes, network_from, fit_tables}
 use Rattle.rules.specs.Unit.{Unit, awaits}
 use Rattle.frames.specs.Meter.{enters, moves, drops}
-use Rattle.frames.specs.MeterTable.{fresh_meter_table}
+use Rattle.meter.specs.Fates.{fate_of, HeldInside}
+use Rattle.meter.specs.declared.calls.Fate.{Fate}
 use Rattle.lines.specs.declared.Command.{Command}
 use Rattle.lines.specs.declared.Command.TheVariants.{Units, Up, Cost, Down, Deliver, Show, Enter, Move, Drop, Page, Bad}
+use Rattle.texts.specs.Printed.{refused_line, bad_line}
 use Rattle.slices.specs.Putting.{used_after, put_after}
 use Rattle.slices.proofs.Putting.{Put, put_as}
-use Rattle.script.specs.Acting.{bad_number, act_number, said_of, meter_begun, act_meter, frame_number, frame_meter, fate_said}
+use Rattle.script.specs.Acting.{act_number, verdict_said, act_meter, frame_number, frame_meter, fate_said}
 use Rattle.script.specs.Answers.{verdict, printed, words_then, bytes_then, meter_then, command_with}
-use Rattle.script.proofs.Fates.{said_fate, answer_some}
+use Rattle.script.proofs.Fates.{said_fate}
 
 -- A message's refusal is small.
 message_small : (u : Unit) (m : Message) → message_refusal u m < answer_base
@@ -86,35 +93,31 @@ module _ (words bytes : List ℕ) where
       otherwise_below (gives_below (not (legal_count n)) 1 (omega arith))
       (gives_below (not (eqb (length words) network_words && eqb (length bytes) network_bytes)) 2 (omega arith))
 
+-- The number of an answer, by its refusal.
+accepted_answer : (refusal : ℕ) → refusal ≡ accepted → hub_answer refusal 0 ≡ answer_base
+accepted_answer refusal none = if_true (eqb refusal accepted) (answer_base + 0) refusal (eq-eqb refusal accepted none)
+
+refused_answer : (refusal : ℕ) → refusal ≢ accepted → hub_answer refusal 0 ≡ refusal
+refused_answer refusal some = if_false (eqb refusal accepted) (answer_base + 0) refusal (ne_eqb refusal accepted some)
+
 -- The answer of a call with a small refusal prints the verdict.
-said_verdict : (refusal : ℕ) → refusal < answer_base → said_of (hub_answer refusal 0) ≡ verdict refusal
-said_verdict refusal h =
-    ⊎_elim
-    (λ e. rw (eq-eqb refusal accepted e))
-    (λ d. rw (ne_eqb refusal accepted d, ne_eqb refusal bad_number (λ e. omega arith), lt-leb answer_base refusal h))
+said_verdict : (refusal : ℕ) → refusal < answer_base → (done : Result ⊤ Refusal) → done_of done ≡ hub_answer refusal 0
+    → verdict_said done ≡ verdict refusal
+said_verdict refusal low (Ok done) e =
+    ⊎_elim (λ none. rw (eq-eqb refusal accepted none))
+    (λ some. absurd (omega (arith, low, e ∙ refused_answer refusal some)))
+    (equal_or_not refusal accepted)
+said_verdict refusal low (Err reason) e =
+    ⊎_elim (λ none. absurd (omega (arith, number_below reason, e ∙ accepted_answer refusal none)))
+    (λ some. rw (ne_eqb refusal accepted some) (ap refused_line (e ∙ refused_answer refusal some)))
     (equal_or_not refusal accepted)
 
--- What a call of the network prints and leaves of the meter is what the command does.
-abbrev Acted : (words bytes meter : List ℕ) → Command → Type 0
-Acted words bytes meter command =
-    (said_of (act_number words bytes command) ≡ printed words bytes meter command)
-    × (act_meter words bytes (frame_meter words bytes meter command) command ≡ meter_then words bytes meter command)
+-- An answer that is there is no other, and not none.
+one_answer : {a b : ℕ} → Some a ≡ Some b → a ≡ b
+one_answer e = ap (λ (answer : Option ℕ). unwrap_or answer 0) e
 
-acted : (words bytes meter : List ℕ) (command : Command) → command ≢ Show → command ≢ Page
-    → frame_number words bytes meter command ≡ 0 → Acted words bytes meter command
-unfolding printed meter_then act_meter frame_number frame_meter
-acted words bytes meter (Units n) d p none = (said_verdict (fresh_network_refusal words bytes n) (fresh_small words bytes n), refl)
-acted words bytes meter (Up a b ca cb) d p none = (said_verdict _ (refusal_small words bytes (up a b ca cb)), refl)
-acted words bytes meter (Cost a b c) d p none = (said_verdict _ (refusal_small words bytes (cost a b c)), refl)
-acted words bytes meter (Down a b) d p none = (said_verdict _ (refusal_small words bytes (down a b)), refl)
-acted words bytes meter (Deliver a b) d p none = (said_verdict _ (refusal_small words bytes (deliver a b)), refl)
-acted words bytes meter Show d p none = absurd (d refl)
-acted words bytes meter (Enter size unit destination) d p none =
-    absurd (answer_some words bytes meter (enters size unit destination) none)
-acted words bytes meter (Move place unit) d p none = absurd (answer_some words bytes meter (moves place unit) none)
-acted words bytes meter (Drop place) d p none = absurd (answer_some words bytes meter (drops place) none)
-acted words bytes meter Page d p none = absurd (p refl)
-acted words bytes meter Bad d p none = (refl, refl)
+no_answer : {a : ℕ} → Some a ≡ None → ⊥
+no_answer {a} e = none-some a (sym e)
 
 -- What a command does and prints, once it is done.
 abbrev Performed : (words bytes meter out : List ℕ) (used : ℕ) → Command → (then : ℕ) (words' bytes' meter' out' : List ℕ)
@@ -125,54 +128,109 @@ Performed words bytes meter out used command then words' bytes' meter' out' =
     × ((words' ≡ words_then words bytes command)
     × ((bytes' ≡ bytes_then words bytes command) × (meter' ≡ meter_then words bytes meter command))))
 
--- A call of the network is done, and its answer is put.
-pub said_put : (words bytes meter out : List ℕ) (used : ℕ) (command : Command) {fate number then : ℕ}
-    {meter₁ words' bytes' meter' out' : List ℕ} → command ≢ Show → command ≢ Page
-    → (fate ≡ frame_number words bytes meter command) × (meter₁ ≡ frame_meter words bytes meter command) → fate ≡ 0
-    → (number ≡ act_number words bytes command)
-    × ((words' ≡ words_then words bytes command)
-    × ((bytes' ≡ bytes_then words bytes command) × (meter' ≡ act_meter words bytes meter₁ command)))
-    → Put out used (said_of number) then out'
-    → Performed words bytes meter out used command then words' bytes' meter' out'
-said_put words bytes meter out used command other more tried none did put =
-    let all = acted words bytes meter command other more (sym tried.0 ∙ none) in
-    let laid = put_as out used (ap said_of did.0 ∙ all.0) put in
-    let left = did.1.1.1 ∙ ap (λ (m : List ℕ). act_meter words bytes m command) tried.1 ∙ all.1 in
-    (laid.0, (laid.1, (did.1.0, (did.1.1.0, left))))
+-- What a call of the network prints and leaves is what the command does.
+abbrev Acted : (words bytes meter : List ℕ) → Command → Result ⊤ Refusal → Type 0
+Acted words bytes meter command done =
+    (verdict_said done ≡ printed words bytes meter command)
+    × (act_meter words bytes (frame_meter words bytes meter command) command ≡ meter_then words bytes meter command)
+
+acted : (words bytes meter : List ℕ) (command : Command) (done : Result ⊤ Refusal)
+    → Some (done_of done) ≡ act_number words bytes command → Acted words bytes meter command done
+unfolding printed meter_then act_meter frame_meter
+acted words bytes meter (Units n) done e = (said_verdict _ (fresh_small words bytes n) done (one_answer e), refl)
+acted words bytes meter (Up a b ca cb) done e = (said_verdict _ (refusal_small words bytes (up a b ca cb)) done (one_answer e), refl)
+acted words bytes meter (Cost a b c) done e = (said_verdict _ (refusal_small words bytes (cost a b c)) done (one_answer e), refl)
+acted words bytes meter (Down a b) done e = (said_verdict _ (refusal_small words bytes (down a b)) done (one_answer e), refl)
+acted words bytes meter (Deliver a b) done e = (said_verdict _ (refusal_small words bytes (deliver a b)) done (one_answer e), refl)
+acted words bytes meter Show done e = absurd (no_answer e)
+acted words bytes meter (Enter size unit destination) done e = absurd (no_answer e)
+acted words bytes meter (Move place unit) done e = absurd (no_answer e)
+acted words bytes meter (Drop place) done e = absurd (no_answer e)
+acted words bytes meter Page done e = absurd (no_answer e)
+acted words bytes meter Bad done e = absurd (no_answer e)
 
 -- What a call of the meter prints and leaves is what the command does.
-abbrev Framed : (words bytes meter : List ℕ) → Command → Type 0
-Framed words bytes meter command =
-    (fate_said (frame_number words bytes meter command) ≡ printed words bytes meter command)
+abbrev Framed : (words bytes meter : List ℕ) → Command → Result Fate Refusal → Type 0
+Framed words bytes meter command fate =
+    (fate_said fate ≡ printed words bytes meter command)
     × ((words ≡ words_then words bytes command)
     × ((bytes ≡ bytes_then words bytes command)
     × (frame_meter words bytes meter command ≡ meter_then words bytes meter command)))
 
-framed : (words bytes meter : List ℕ) (command : Command) → frame_number words bytes meter command ≢ 0
-    → Framed words bytes meter command
+framed : (words bytes meter : List ℕ) (command : Command) (fate : Result Fate Refusal) → IfOk fate (λ found. HeldInside found)
+    → Some (fate_of fate) ≡ frame_number words bytes meter command → Framed words bytes meter command fate
 unfolding printed words_then bytes_then meter_then frame_number frame_meter
-framed words bytes meter (Units n) some = absurd (some refl)
-framed words bytes meter (Up a b ca cb) some = absurd (some refl)
-framed words bytes meter (Cost a b c) some = absurd (some refl)
-framed words bytes meter (Down a b) some = absurd (some refl)
-framed words bytes meter (Deliver a b) some = absurd (some refl)
-framed words bytes meter Show some = absurd (some refl)
-framed words bytes meter (Enter size unit destination) some =
-    (said_fate words bytes meter (enters size unit destination), (refl, (refl, refl)))
-framed words bytes meter (Move place unit) some = (said_fate words bytes meter (moves place unit), (refl, (refl, refl)))
-framed words bytes meter (Drop place) some = (said_fate words bytes meter (drops place), (refl, (refl, refl)))
-framed words bytes meter Page some = absurd (some refl)
-framed words bytes meter Bad some = absurd (some refl)
+framed words bytes meter (Units n) fate inside e = absurd (no_answer e)
+framed words bytes meter (Up a b ca cb) fate inside e = absurd (no_answer e)
+framed words bytes meter (Cost a b c) fate inside e = absurd (no_answer e)
+framed words bytes meter (Down a b) fate inside e = absurd (no_answer e)
+framed words bytes meter (Deliver a b) fate inside e = absurd (no_answer e)
+framed words bytes meter Show fate inside e = absurd (no_answer e)
+framed words bytes meter (Enter size unit destination) fate inside e =
+    (said_fate words bytes meter (enters size unit destination) fate inside (one_answer e), (refl, (refl, refl)))
+framed words bytes meter (Move place unit) fate inside e =
+    (said_fate words bytes meter (moves place unit) fate inside (one_answer e), (refl, (refl, refl)))
+framed words bytes meter (Drop place) fate inside e =
+    (said_fate words bytes meter (drops place) fate inside (one_answer e), (refl, (refl, refl)))
+framed words bytes meter Page fate inside e = absurd (no_answer e)
+framed words bytes meter Bad fate inside e = absurd (no_answer e)
 
--- A call of the meter is done, and its answer is put.
-pub fate_put : (words bytes meter out : List ℕ) (used : ℕ) (command : Command) {fate then : ℕ} {meter' out' : List ℕ}
-    → (fate ≡ frame_number words bytes meter command) × (meter' ≡ frame_meter words bytes meter command) → fate ≢ 0
-    → Put out used (fate_said fate) then out'
-    → Performed words bytes meter out used command then words bytes meter' out'
-fate_put words bytes meter out used command did some put =
-    let all = framed words bytes meter command (λ e. some (did.0 ∙ e)) in
-    let laid = put_as out used (ap fate_said did.0 ∙ all.0) put in
-    (laid.0, (laid.1, (all.1.0, (all.1.1.0, did.1 ∙ all.1.1.1))))
+-- What is no call, no `show` and no `page` is a bad line.
+idle : (words bytes meter : List ℕ) (command : Command) → command ≢ Show → command ≢ Page
+    → None ≡ frame_number words bytes meter command → None ≡ act_number words bytes command
+    → (bad_line ≡ printed words bytes meter command)
+    × (act_meter words bytes (frame_meter words bytes meter command) command ≡ meter_then words bytes meter command)
+unfolding printed meter_then act_meter frame_number frame_meter
+idle words bytes meter (Units n) d p tried e = absurd (none-some _ e)
+idle words bytes meter (Up a b ca cb) d p tried e = absurd (none-some _ e)
+idle words bytes meter (Cost a b c) d p tried e = absurd (none-some _ e)
+idle words bytes meter (Down a b) d p tried e = absurd (none-some _ e)
+idle words bytes meter (Deliver a b) d p tried e = absurd (none-some _ e)
+idle words bytes meter Show d p tried e = absurd (d refl)
+idle words bytes meter (Enter size unit destination) d p tried e = absurd (none-some _ tried)
+idle words bytes meter (Move place unit) d p tried e = absurd (none-some _ tried)
+idle words bytes meter (Drop place) d p tried e = absurd (none-some _ tried)
+idle words bytes meter Page d p tried e = absurd (p refl)
+idle words bytes meter Bad d p tried e = (refl, refl)
+
+module _ (words bytes meter out : List ℕ) (used : ℕ) (command : Command) {then : ℕ} {out' : List ℕ} where
+  -- A call of the meter is done, and its answer is put.
+  pub fate_put : (fate : Result Fate Refusal) → Some (fate_of fate) ≡ frame_number words bytes meter command
+      → IfOk fate (λ found. HeldInside found) → {meter' : List ℕ} → meter' ≡ frame_meter words bytes meter command
+      → Put out used (fate_said fate) then out'
+      → Performed words bytes meter out used command then words bytes meter' out'
+  fate_put fate e inside left put =
+      let all = framed words bytes meter command fate inside e in
+      let laid = put_as out used all.0 put in
+      (laid.0, (laid.1, (all.1.0, (all.1.1.0, left ∙ all.1.1.1))))
+
+  -- What is asked of the network is asked once it is tried whether the meter is asked.
+  module _ {meter₁ words' bytes' meter' : List ℕ} (tried : meter₁ ≡ frame_meter words bytes meter command) where
+    -- A call of the network is done, and its answer is put.
+    pub verdict_put : (done : Result ⊤ Refusal)
+        → (Some (done_of done) ≡ act_number words bytes command)
+        × ((words' ≡ words_then words bytes command)
+        × ((bytes' ≡ bytes_then words bytes command) × (meter' ≡ act_meter words bytes meter₁ command)))
+        → Put out used (verdict_said done) then out'
+        → Performed words bytes meter out used command then words' bytes' meter' out'
+    verdict_put done did put =
+        let all = acted words bytes meter command done did.0 in
+        let laid = put_as out used all.0 put in
+        let left = did.1.1.1 ∙ ap (λ (m : List ℕ). act_meter words bytes m command) tried ∙ all.1 in
+        (laid.0, (laid.1, (did.1.0, (did.1.1.0, left))))
+
+    -- A bad line is put.
+    pub bad_put : command ≢ Show → command ≢ Page → None ≡ frame_number words bytes meter command
+        → (None ≡ act_number words bytes command)
+        × ((words' ≡ words_then words bytes command)
+        × ((bytes' ≡ bytes_then words bytes command) × (meter' ≡ act_meter words bytes meter₁ command)))
+        → Put out used bad_line then out'
+        → Performed words bytes meter out used command then words' bytes' meter' out'
+    bad_put other more none did put =
+        let all = idle words bytes meter command other more none did.0 in
+        let laid = put_as out used all.0 put in
+        let left = did.1.1.1 ∙ ap (λ (m : List ℕ). act_meter words bytes m command) tried ∙ all.1 in
+        (laid.0, (laid.1, (did.1.0, (did.1.1.0, left))))
 
 -- The command that was done is the line's.
 pub line_done : (words bytes meter line out : List ℕ) (used : ℕ) {command : Command} {then : ℕ}
@@ -181,38 +239,12 @@ pub line_done : (words bytes meter line out : List ℕ) (used : ℕ) {command : 
     → Performed words bytes meter out used (command_with meter line) then words' bytes' meter' out'
 line_done words bytes meter line out used e did = rw (← e) did
 
--- The answer of the fresh network tells whether the meter is begun.
-pub begun_none : (words bytes meter : List ℕ) (n : ℕ) {number : ℕ} → number ≡ hub_answer (fresh_network_refusal words bytes n) 0
-    → number < answer_base → meter ≡ meter_begun words bytes meter n
-begun_none words bytes meter n e low =
-    let refusal = fresh_network_refusal words bytes n in
-    ⊎_elim
-    (λ none. absurd (omega (arith, e ∙ if_true (eqb refusal accepted) (answer_base + 0) refusal (eq-eqb refusal accepted none))))
-    (λ some. rw (ne_eqb refusal accepted some))
-    (equal_or_not refusal accepted)
-
-pub begun_afresh : (words bytes meter : List ℕ) (n : ℕ) {number : ℕ} {meter' : List ℕ}
-    → number ≡ hub_answer (fresh_network_refusal words bytes n) 0 → answer_base ≤ number → meter' ≡ fresh_meter_table meter
-    → meter' ≡ meter_begun words bytes meter n
-begun_afresh words bytes meter n e high is =
-    let refusal = fresh_network_refusal words bytes n in
-    ⊎_elim
-    (λ none. rw (eq-eqb refusal accepted none) is)
-    (λ some.
-    absurd
-    (omega (
-      arith,
-      fresh_small words bytes n,
-      e ∙ if_false (eqb refusal accepted) (answer_base + 0) refusal (ne_eqb refusal accepted some),
-    )))
-    (equal_or_not refusal accepted)
-
 -- A command that is no call of the network, and one that is no call of the meter.
 pub not_acted : (words bytes meter : List ℕ) (command : Command)
     → ((n : ℕ) → command ≢ Units n) → ((a b ca cb : ℕ) → command ≢ Up a b ca cb)
     → ((a b c : ℕ) → command ≢ Cost a b c) → ((a b : ℕ) → command ≢ Down a b)
     → ((a b : ℕ) → command ≢ Deliver a b)
-    → (bad_number ≡ act_number words bytes command)
+    → (None ≡ act_number words bytes command)
     × ((words ≡ words_then words bytes command)
     × ((bytes ≡ bytes_then words bytes command) × (meter ≡ act_meter words bytes meter command)))
 unfolding words_then bytes_then act_meter
@@ -231,7 +263,7 @@ not_acted words bytes meter Bad u p c d e = (refl, (refl, (refl, refl)))
 pub not_framed : (words bytes meter : List ℕ) (command : Command)
     → ((size unit destination : ℕ) → command ≢ Enter size unit destination)
     → ((place unit : ℕ) → command ≢ Move place unit) → ((place : ℕ) → command ≢ Drop place)
-    → (0 ≡ frame_number words bytes meter command) × (meter ≡ frame_meter words bytes meter command)
+    → (None ≡ frame_number words bytes meter command) × (meter ≡ frame_meter words bytes meter command)
 unfolding frame_number frame_meter
 not_framed words bytes meter (Units n) e m d = (refl, refl)
 not_framed words bytes meter (Up a b ca cb) e m d = (refl, refl)

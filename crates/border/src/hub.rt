@@ -7,6 +7,7 @@ ghost use Rattle.state.specs.Asked.{asked_of};
 ghost use Rattle.unit.specs.Calls.{call_of};
 
 use crate::{answers, words};
+use ground::refusals::Refusal;
 use ground::{UNIT_WORDS, UNITS};
 use state::questions;
 use state::questions::Question;
@@ -21,13 +22,13 @@ pub fn puntclover_hub_fresh(count: u32, me: u32, table: &mut [u8]) -> u32
     ensures table { table.new ≡ border_fresh_table table.old count me }
 {
     if count < 2 {
-        return 1;
+        return Refusal::UnitCount.number();
     }
     if (UNITS as u32) < count {
-        return 1;
+        return Refusal::UnitCount.number();
     }
     if table.len() != TABLE_BYTES {
-        return 2;
+        return Refusal::Unfit.number();
     }
     let mut numbers = [0u32; UNIT_WORDS];
     words::take_numbers(&mut numbers, table);
@@ -43,7 +44,7 @@ fn answer(table: &mut [u8], call: Call, bytes: &[u8], out: &mut [u8]) -> u32
     ensures sent { out.new ≡ border_buffer table.old out.old (call_of call bytes.now) }
 {
     if table.len() != TABLE_BYTES {
-        return 2;
+        return Refusal::Unfit.number();
     }
     let mut numbers = [0u32; UNIT_WORDS];
     words::take_numbers(&mut numbers, table);
@@ -91,7 +92,7 @@ pub fn puntclover_hub_state(table: &[u8]) -> u32
     ensures { result ≡ border_state table.now }
 {
     if table.len() != TABLE_BYTES {
-        return 2;
+        return Refusal::Unfit.number();
     }
     let mut numbers = [0u32; UNIT_WORDS];
     words::take_numbers(&mut numbers, table);
@@ -103,7 +104,7 @@ fn ask(table: &[u8], question: Question, to: u32) -> u32
     ensures { result ≡ asked table.now (λ words. asked_of question words to) }
 {
     if table.len() != TABLE_BYTES {
-        return 2;
+        return Refusal::Unfit.number();
     }
     let mut numbers = [0u32; UNIT_WORDS];
     words::take_numbers(&mut numbers, table);

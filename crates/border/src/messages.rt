@@ -9,6 +9,7 @@ ghost use Rattle.message.specs.Numbers.{read_answer};
 ghost use Rattle.border.specs.MessageBytes.{broken_refusal, border_write_answer, border_frame, border_fields};
 
 use crate::{answers, words};
+use ground::refusals::Refusal;
 use ground::{ANSWERED, ENTRIES, UNITS};
 use message::{numbers, writer};
 
@@ -24,13 +25,13 @@ pub fn puntclover_message_read(count: u32, bytes: &[u8], fields: &mut [u8]) -> u
     ensures fields { fields.new ≡ border_fields count bytes.now fields.old }
 {
     if count < 2 {
-        return 1;
+        return Refusal::UnitCount.number();
     }
     if (UNITS as u32) < count {
-        return 1;
+        return Refusal::UnitCount.number();
     }
     if fields.len() < FIELD_BYTES {
-        return 7;
+        return Refusal::Room.number();
     }
     let mut numbers = [0u32; FIELDS];
     match numbers::read(count, bytes, &mut numbers) {
@@ -47,7 +48,7 @@ fn broken(count: u32, entries: usize, places: usize, offset: usize) -> u32
     ensures { result ≡ broken_refusal count entries places offset }
 {
     match writer::room_refusal(count, entries, places, offset) {
-        Ok(()) => 9,
+        Ok(()) => Refusal::Message.number(),
         Err(refusal) => refusal.number(),
     }
 }

@@ -32,7 +32,7 @@ pub fn puntclover_meter_fresh(meter: &mut [u8]) -> u32
     ensures meter { meter.new ≡ fresh_meter_bytes meter.old }
 {
     if meter.len() != METER_BYTES {
-        return 2;
+        return Refusal::Unfit.number();
     }
     let mut numbers = [0u32; METER_WORDS];
     let answer = calls::fresh(&mut numbers);
@@ -66,10 +66,10 @@ fn answer(units: &[u8], queues: &[u8], meter: &mut [u8], call: FrameCall) -> u32
     ensures meter { meter.new ≡ border_meter units.now queues.now meter.old (frame_told call) }
 {
     if units.len() != UNITS_BYTES {
-        return 2;
+        return Refusal::Unfit.number();
     }
     if meter.len() != METER_BYTES {
-        return 2;
+        return Refusal::Unfit.number();
     }
     let mut numbers = [0u32; NETWORK_WORDS];
     words::take_numbers(&mut numbers, units);
@@ -127,10 +127,10 @@ fn ask_figure(units: &[u8], queues: &[u8], meter: &[u8], which: Figure) -> u64
     ensures { result ≡ asked_of_meter units.now meter.now (λ words table. figure_asked which words queues.now table) }
 {
     if units.len() != UNITS_BYTES {
-        return 2;
+        return u64::from(Refusal::Unfit.number());
     }
     if meter.len() != METER_BYTES {
-        return 2;
+        return u64::from(Refusal::Unfit.number());
     }
     let mut numbers = [0u32; NETWORK_WORDS];
     words::take_numbers(&mut numbers, units);
@@ -175,10 +175,10 @@ fn ask_field(units: &[u8], queues: &[u8], meter: &[u8], frame: u32, which: Field
     ensures { result ≡ asked_of_meter units.now meter.now (λ words table. field_asked which words queues.now table frame) }
 {
     if units.len() != UNITS_BYTES {
-        return 2;
+        return Refusal::Unfit.number();
     }
     if meter.len() != METER_BYTES {
-        return 2;
+        return Refusal::Unfit.number();
     }
     let mut numbers = [0u32; NETWORK_WORDS];
     words::take_numbers(&mut numbers, units);

@@ -32,16 +32,16 @@ pub fn puntclover_network_fresh(count: u32, units: &mut [u8], queues: &mut [u8])
     ensures queues { queues.new ≡ fresh_queues_bytes units.old queues.old count }
 {
     if count < 2 {
-        return 1;
+        return Refusal::UnitCount.number();
     }
     if (UNITS as u32) < count {
-        return 1;
+        return Refusal::UnitCount.number();
     }
     if units.len() != UNITS_BYTES {
-        return 2;
+        return Refusal::Unfit.number();
     }
     if queues.len() != NETWORK_BYTES {
-        return 2;
+        return Refusal::Unfit.number();
     }
     let mut numbers = [0u32; NETWORK_WORDS];
     let answer = fresh::fresh(count, &mut numbers, queues);
@@ -70,7 +70,7 @@ fn answer(units: &mut [u8], queues: &mut [u8], call: NetworkCall) -> u32
     ensures queues { queues.new ≡ border_queues units.old queues.old (call_told call) }
 {
     if units.len() != UNITS_BYTES {
-        return 2;
+        return Refusal::Unfit.number();
     }
     let mut numbers = [0u32; NETWORK_WORDS];
     words::take_numbers(&mut numbers, units);
@@ -128,7 +128,7 @@ pub fn puntclover_network_state(units: &[u8], queues: &[u8], i: u32) -> u32
     ensures { result ≡ asked_of_units units.now (λ words. state_answer words queues.now i) }
 {
     if units.len() != UNITS_BYTES {
-        return 2;
+        return Refusal::Unfit.number();
     }
     let mut numbers = [0u32; NETWORK_WORDS];
     words::take_numbers(&mut numbers, units);
@@ -140,7 +140,7 @@ fn ask(units: &[u8], queues: &[u8], i: u32, j: u32, question: Question) -> u32
     ensures { result ≡ asked_of_units units.now (λ words. asked_between question words queues.now i j) }
 {
     if units.len() != UNITS_BYTES {
-        return 2;
+        return Refusal::Unfit.number();
     }
     let mut numbers = [0u32; NETWORK_WORDS];
     words::take_numbers(&mut numbers, units);
@@ -192,7 +192,7 @@ pub fn puntclover_network_trace(
     ensures path { path.new ≡ border_path units.now queues.now start destination choices.now path.old }
 {
     if units.len() != UNITS_BYTES {
-        return 2;
+        return Refusal::Unfit.number();
     }
     let mut numbers = [0u32; NETWORK_WORDS];
     words::take_numbers(&mut numbers, units);

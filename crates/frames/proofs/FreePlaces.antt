@@ -1,17 +1,15 @@
--- The lowest free place of a meter: a search from the first place on finds it, and there is none exactly where all places hold a
--- frame.
-use Prim.Native.Nat.{ℕ, zero, suc, ◌+◌, ◌≤◌, ◌<◌}
+-- The lowest free place of a meter: there is none exactly where all places hold a frame.
+use Prim.Native.Nat.{ℕ, zero, suc, ◌≤◌, ◌<◌}
 use native.Mathlib.Nat.{lt-suc_self, not-suc-le-zero, le_antisymm}
 use native.Mathlib.Omega.{arith}
 use mathlib.Core.Bool.{Bool, true, false, not}
-use mathlib.Core.Logic.{◌≢◌, ⊎_elim}
+use mathlib.Core.Logic.{⊎_elim}
 use mathlib.Core.Path.{◌≡◌, refl, sym, ap, ◌∙◌}
-use borrow.Author.Tests.{eq-eqb, ne_eqb, eqb-true, not-true, not-false}
+use borrow.Author.Tests.{eq-eqb, eqb-true, not-true, not-false}
 use lib.Dec.{eqb}
 use Rattle.std.specs.Prelude.{if◌then◌else◌}
 use Rattle.ground.specs.Limits.{frame_limit}
 use Rattle.ground.specs.Rows.{total, lowest}
-use Rattle.ground.proofs.Lists.{lowest_is}
 use Rattle.ground.proofs.Rows.{below_suc, lowest_le, lowest_first, lowest_holds}
 use Rattle.ground.proofs.Tests.{same_tests, less_or_not}
 use Rattle.frames.specs.Meter.{Meter, is_held, frame_at, held_frames, free_place}
@@ -87,31 +85,3 @@ module _ (held : ℕ → Bool) where
 -- "14 no free place, exactly when 64 are held".
 pub none_free : (meter : Meter) → eqb (held_frames meter) frame_limit ≡ eqb (free_place meter) frame_limit
 none_free meter = all_held (λ place. is_held (frame_at meter place)) frame_limit
-
--- A search that has passed the places below `place`: each holds a frame.
-abbrev pub HeldBelow : Meter → (place : ℕ) → Type 0
-HeldBelow meter place = (i : ℕ) → i < place → is_held (frame_at meter i) ≡ true
-
--- It passes a place that holds a frame.
-pub held_on : (meter : Meter) (place : ℕ) → HeldBelow meter place → (frame_at meter place).size ≢ 0 → HeldBelow meter (place + 1)
-held_on meter place below d i l =
-    ⊎_elim
-    (λ e. ap (λ (k : ℕ). is_held (frame_at meter k)) e ∙ ap not (ne_eqb (frame_at meter place).size 0 d))
-    (λ k. below i k)
-    (below_suc (omega arith))
-
--- It ends at the first free place.
-pub free_found : (meter : Meter) (place : ℕ) → place < frame_limit → HeldBelow meter place → (frame_at meter place).size ≡ 0
-    → place ≡ free_place meter
-free_found meter place l below e =
-    sym
-    (lowest_is frame_limit (λ i. not (is_held (frame_at meter i))) place (omega arith) (λ i k. ap not (below i k))
-    (λ k. ap (λ (b : Bool). not (not b)) (eq-eqb (frame_at meter place).size 0 e)))
-
--- Else it ends past the last one.
-pub none_found : (meter : Meter) (place : ℕ) → place ≤ frame_limit → frame_limit ≤ place → HeldBelow meter place
-    → place ≡ free_place meter
-none_found meter place most least below =
-    sym
-    (lowest_is frame_limit (λ i. not (is_held (frame_at meter i))) place most (λ i k. ap not (below i k))
-    (λ k. absurd (omega arith)))

@@ -25,7 +25,7 @@ pub enum Command {
     Move(u32, u32),
     Drop(u32),
     Page,
-    // Any other line.
+    // Any other line: it is answered too, by a line that says so.
     Bad,
 }
 

@@ -39,13 +39,6 @@ fn refused(refusal: Refusal) -> Reading
     }
 }
 
-// A byte as a wider number, which is still below 256.
-fn wide(b: u8) -> u32
-    ensures { (result ≡ b) × (result < 256) }
-{
-    b as u32
-}
-
 // Edition 1, and as many bytes as the number of entries says.
 fn is_framed(bytes: &[u8]) -> bool
     ensures { result ≡ is_framed bytes.now }
@@ -56,7 +49,7 @@ fn is_framed(bytes: &[u8]) -> bool
     if bytes[0] != 1 {
         return false;
     }
-    bytes.len() == 4 + 4 * (wide(bytes[3]) as usize)
+    bytes.len() == 4 + 4 * usize::from(bytes[3])
 }
 
 // The change at place i of the entries: its unit from the table of contents, its body from the bodies.
@@ -64,11 +57,11 @@ fn change_at(bytes: &[u8], entries: usize, i: usize) -> u32
     requires { (i < entries) × (entries < 256) × (length bytes.now ≡ 4 + 4 * entries) }
     ensures { result ≡ change_at bytes.now entries i }
 {
-    let unit = wide(bytes[4 + i]);
+    let unit = u32::from(bytes[4 + i]);
     let at = 4 + entries + 3 * i;
-    let head = wide(bytes[at]);
-    let high = wide(bytes[at + 1]);
-    let low = wide(bytes[at + 2]);
+    let head = u32::from(bytes[at]);
+    let high = u32::from(bytes[at + 1]);
+    let low = u32::from(bytes[at + 2]);
     unit * CHANGE_BASE + (head * ENTRY_BASE + high * 256 + low)
 }
 
@@ -89,8 +82,8 @@ fn header_of(count: u32, bytes: &[u8], changes: &[u32]) -> Result<Header, Refusa
     requires { Framed count bytes.now }
     ensures { reading_said result ≡ said (not (legal_message count (fields_of (at bytes.now 2) (at bytes.now 1) changes.now)) gives 9) (message_values (fields_of (at bytes.now 2) (at bytes.now 1) changes.now)) }
 {
-    let kind = Kind::try_from(wide(bytes[2]))?;
-    let sender = wide(bytes[1]);
+    let kind = Kind::try_from(u32::from(bytes[2]))?;
+    let sender = u32::from(bytes[1]);
     if !fields::legal_fields(count, kind, sender, changes) {
         return Err(Refusal::Message);
     }
@@ -107,7 +100,7 @@ fn read_framed(count: u32, bytes: &[u8]) -> Reading
     ensures answer { reading_said result.answer ≡ said (read_refusal count bytes.now) (message_values (message_of bytes.now)) }
     ensures changes { result.changes ≡ changes_read count bytes.now }
 {
-    let entries = wide(bytes[3]) as usize;
+    let entries = usize::from(bytes[3]);
     if (count as usize) <= entries {
         return refused(Refusal::Message);
     }

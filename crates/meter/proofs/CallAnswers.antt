@@ -120,7 +120,8 @@ module _ (words bytes meter : List ℕ) where
     entered_elsewhere other place free after e =
         let there = ne_eqb unit destination other in
         let frame = new_frame size unit destination in
-        answers (enters size unit destination) none (Held place) (entered_inside words bytes meter size unit destination none free)
+        answers (enters size unit destination) none (Held place)
+        (entered_inside words bytes meter size unit destination none free)
         (ap (λ n. answer_base + n) free ∙ sym (ap fate_number (if_false _ _ _ there)))
         (e
         ∙ ap (λ n. laid_meter (with_frame (meter_from entered) n frame)) free
@@ -183,7 +184,8 @@ module _ (words bytes meter : List ℕ) where
             ∙ ap (λ n.
             laid_meter (with_frame (meter_from meter) place
             (record { size = frame.size; unit = unit; destination = frame.destination; hops = n }))) (add-one frame.hops) in
-            answers (moves place unit) none (Held place) (moved_inside words bytes meter place unit none) (sym (rw (elsewhere, onward))) (left ∙ sym (rw (elsewhere, onward)))
+            answers (moves place unit) none (Held place) (moved_inside words bytes meter place unit none)
+            (sym (rw (elsewhere, onward))) (left ∙ sym (rw (elsewhere, onward)))
 
     -- A frame that is dropped.
     pub dropped_now : meter_refusal words bytes meter (drops place) ≡ accepted → (after : List ℕ)

@@ -128,7 +128,11 @@ module _ (words bytes meter : List ℕ) where
         pub field_small : value ≤ highest_size
         field_small =
             let count = (fit_sized words bytes (metered_network words bytes meter fit)).high in
-            omega (arith, read_there, field_most (at words 0) (frame_at (meter_from meter) place) there.0 count (fitted.each place) which)
+            omega (
+              arith,
+              read_there,
+              field_most (at words 0) (frame_at (meter_from meter) place) there.0 count (fitted.each place) which,
+            )
 
         -- It is answered.
         pub field_answered : answer_base + value ≡ field_asked which words bytes meter place

@@ -104,10 +104,7 @@ pub fn figure_in(meter: &[u32], which: Figure) -> u64
 pub fn frame_in(meter: &[u32], place: usize) -> Frame
     ensures { result ≡ as_read (frame_in meter.now place) }
 {
-    if meter.len() != METER_WORDS {
-        return nothing();
-    }
-    if FRAMES <= place {
+    if meter.len() != METER_WORDS || FRAMES <= place {
         return nothing();
     }
     let from = PLACES + place * WIDTH;

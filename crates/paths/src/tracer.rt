@@ -25,7 +25,7 @@ pub enum Traced {
     Circling(usize),
 }
 
-// How many units a set has.
+// How many units below the count a set has. `count_ones` would count those at and above it too.
 fn number_in(set: u32, count: usize) -> usize
     requires { count ≤ unit_limit }
     ensures { result ≡ length (units_in count set) }
@@ -81,6 +81,7 @@ fn follow(
     let count = words[0] as usize;
     let mut i = start;
     let mut hops = 0;
+    // Three tests end it, each with an ending of its own, so the loop's value is the ending (docs/FORMS.md).
     loop {
         path[hops] = (i % 256) as u8;
         if i == destination {

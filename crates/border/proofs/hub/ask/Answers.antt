@@ -6,7 +6,8 @@ use Rattle.border.proofs.hub.ask.Goals as goal
 pub returns-then-table-ne-TABLE_BYTES : goal.returns-then-table-ne-TABLE_BYTES
 returns-then-table-ne-TABLE_BYTES c =
     let args = c.args in
-    wrong_asked args.table.now (λ words. asked_of args.question words args.to) c.if-table-ne-TABLE_BYTES.true
+    rw c.number.ensures
+    (wrong_asked args.table.now (λ words. asked_of args.question words args.to) c.if-table-ne-TABLE_BYTES.true)
 
 pub returns : goal.returns
 returns c =

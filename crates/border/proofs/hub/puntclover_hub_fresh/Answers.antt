@@ -8,17 +8,20 @@ use Rattle.border.proofs.hub.puntclover_hub_fresh.Goals as goal
 pub returns-then-count-lt2 : goal.returns-then-count-lt2
 returns-then-count-lt2 c =
     let args = c.args in
-    told_answer_table (fresh_count args.table.now args.count args.me (λ i. omega (arith, c.type_inv.table i)) (count_low _ c.if-count-lt2.true))
+    rw c.number.ensures
+    (told_answer_table (fresh_count args.table.now args.count args.me (λ i. omega (arith, c.type_inv.table i)) (count_low _ c.if-count-lt2.true)))
 
 pub returns-then-count : goal.returns-then-count
 returns-then-count c =
     let args = c.args in
-    told_answer_table (fresh_count args.table.now args.count args.me (λ i. omega (arith, c.type_inv.table i)) (count_high _ c.if-count.true))
+    rw c.number-then-count.ensures
+    (told_answer_table (fresh_count args.table.now args.count args.me (λ i. omega (arith, c.type_inv.table i)) (count_high _ c.if-count.true)))
 
 pub returns-then-table-ne-TABLE_BYTES : goal.returns-then-table-ne-TABLE_BYTES
 returns-then-table-ne-TABLE_BYTES c =
     let args = c.args in
-    told_answer_table (fresh_length args.table.now args.count args.me (count_legal _ c.if-count-lt2.false c.if-count.false) c.if-table-ne-TABLE_BYTES.true)
+    rw c.number-then-table-ne-TABLE_BYTES.ensures
+    (told_answer_table (fresh_length args.table.now args.count args.me (count_legal _ c.if-count-lt2.false c.if-count.false) c.if-table-ne-TABLE_BYTES.true))
 
 pub returns : goal.returns
 returns c =

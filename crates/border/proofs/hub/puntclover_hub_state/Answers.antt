@@ -4,7 +4,7 @@ use Rattle.border.proofs.Asking.{wrong_asked, right_asked}
 use Rattle.border.proofs.hub.puntclover_hub_state.Goals as goal
 
 pub returns-then-table-ne-TABLE_BYTES : goal.returns-then-table-ne-TABLE_BYTES
-returns-then-table-ne-TABLE_BYTES c = wrong_asked c.args.table.now active_answer c.if-table-ne-TABLE_BYTES.true
+returns-then-table-ne-TABLE_BYTES c = rw c.number.ensures (wrong_asked c.args.table.now active_answer c.if-table-ne-TABLE_BYTES.true)
 
 pub returns : goal.returns
 returns c =

@@ -14,17 +14,20 @@ use Rattle.border.proofs.messages.puntclover_message_read.Goals as goal
 pub returns-then-count-lt2 : goal.returns-then-count-lt2
 returns-then-count-lt2 c =
     let args = c.args in
-    told_answer_fields (read_bad _ args.bytes.now args.fields.now (count_low _ c.if-count-lt2.true))
+    rw c.number.ensures
+    (told_answer_fields (read_bad _ args.bytes.now args.fields.now (count_low _ c.if-count-lt2.true)))
 
 pub returns-then-count : goal.returns-then-count
 returns-then-count c =
     let args = c.args in
-    told_answer_fields (read_bad _ args.bytes.now args.fields.now (count_high _ c.if-count.true))
+    rw c.number-then-count.ensures
+    (told_answer_fields (read_bad _ args.bytes.now args.fields.now (count_high _ c.if-count.true)))
 
 pub returns-then-fields-lt-FIELD_BYTES : goal.returns-then-fields-lt-FIELD_BYTES
 returns-then-fields-lt-FIELD_BYTES c =
     let args = c.args in
-    told_answer_fields (read_short _ args.bytes.now args.fields.now (count_legal _ c.if-count-lt2.false c.if-count.false) c.if-fields-lt-FIELD_BYTES.true)
+    rw c.number-then-fields-lt-FIELD_BYTES.ensures
+    (told_answer_fields (read_short _ args.bytes.now args.fields.now (count_legal _ c.if-count-lt2.false c.if-count.false) c.if-fields-lt-FIELD_BYTES.true))
 
 pub slice_bounds-lay_numbers-end-in-Ok : goal.slice_bounds-lay_numbers-end-in-Ok
 slice_bounds-lay_numbers-end-in-Ok c = simp length-take (omega arith)
@@ -35,7 +38,7 @@ lay_numbers-requires c = simp length-take (omega arith)
 pub returns-in-Err : goal.returns-in-Err
 returns-in-Err c =
     let args = c.args in
-    rw c.number.ensures
+    rw c.number-in-Err.ensures
     (told_answer_fields (read_refused _ args.bytes.now args.fields.now (count_legal _ c.if-count-lt2.false c.if-count.false)
     c.if-fields-lt-FIELD_BYTES.false (zeros field_places) (length-replicate {A = ℕ} field_places 0)
     c.in-Err.ensures.answer (number_below c.in-Err.refusal)))

@@ -6,7 +6,7 @@ use borrow.Author.Rules.{rules}
 use lib.ListN.{length, length-take}
 use Rattle.ground.specs.Limits.{entry_limit}
 use Rattle.border.proofs.MessageBorder.{changes_taken, write_broken, write_many, write_all}
-use Rattle.ground.proofs.Clauses.{heard_answer_frame, told_answer_frame}
+use Rattle.ground.proofs.Clauses.{told_answer_frame}
 use Rattle.border.proofs.messages.puntclover_message_write.Goals as goal
 
 pub returns-then-changes-ne0 : goal.returns-then-changes-ne0

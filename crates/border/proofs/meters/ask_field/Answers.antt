@@ -6,16 +6,18 @@ use Rattle.border.proofs.meters.ask_field.Goals as goal
 pub returns-then-units-ne-UNITS_BYTES : goal.returns-then-units-ne-UNITS_BYTES
 returns-then-units-ne-UNITS_BYTES c =
     let args = c.args in
-    units_unasked args.units.now args.meter.now
+    rw c.number.ensures
+    (units_unasked args.units.now args.meter.now
     (λ words table. field_asked args.which words args.queues.now table args.frame)
-    c.if-units-ne-UNITS_BYTES.true
+    c.if-units-ne-UNITS_BYTES.true)
 
 pub returns-then-meter-ne-METER_BYTES : goal.returns-then-meter-ne-METER_BYTES
 returns-then-meter-ne-METER_BYTES c =
     let args = c.args in
-    meter_unasked args.units.now args.meter.now
+    rw c.number-then-meter-ne-METER_BYTES.ensures
+    (meter_unasked args.units.now args.meter.now
     (λ words table. field_asked args.which words args.queues.now table args.frame)
-    c.if-units-ne-UNITS_BYTES.false c.if-meter-ne-METER_BYTES.true
+    c.if-units-ne-UNITS_BYTES.false c.if-meter-ne-METER_BYTES.true)
 
 pub returns : goal.returns
 returns c =

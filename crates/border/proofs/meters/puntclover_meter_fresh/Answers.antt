@@ -9,7 +9,7 @@ use Rattle.ground.proofs.Clauses.{heard_answer_meter, told_answer_meter}
 use Rattle.border.proofs.meters.puntclover_meter_fresh.Goals as goal
 
 pub returns-then-meter-ne-METER_BYTES : goal.returns-then-meter-ne-METER_BYTES
-returns-then-meter-ne-METER_BYTES c = told_answer_meter (fresh_meter_refused c.args.meter.now c.if-meter-ne-METER_BYTES.true)
+returns-then-meter-ne-METER_BYTES c = rw c.number.ensures (told_answer_meter (fresh_meter_refused c.args.meter.now c.if-meter-ne-METER_BYTES.true))
 
 pub returns : goal.returns
 returns c =

@@ -7,7 +7,8 @@ use Rattle.border.proofs.networks.answer.Goals as goal
 pub returns-then-units-ne-UNITS_BYTES : goal.returns-then-units-ne-UNITS_BYTES
 returns-then-units-ne-UNITS_BYTES c =
     let args = c.args in
-    told_answer_units_queues (wrong_units args.units.now args.queues.now (call_told args.call) c.if-units-ne-UNITS_BYTES.true)
+    rw c.number.ensures
+    (told_answer_units_queues (wrong_units args.units.now args.queues.now (call_told args.call) c.if-units-ne-UNITS_BYTES.true))
 
 pub returns : goal.returns
 returns c =

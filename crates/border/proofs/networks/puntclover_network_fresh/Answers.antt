@@ -11,24 +11,28 @@ use Rattle.border.proofs.networks.puntclover_network_fresh.Goals as goal
 pub returns-then-count-lt2 : goal.returns-then-count-lt2
 returns-then-count-lt2 c =
     let args = c.args in
-    told_answer_units_queues (fresh_bad args.units.now args.queues.now args.count (count_low _ c.if-count-lt2.true))
+    rw c.number.ensures
+    (told_answer_units_queues (fresh_bad args.units.now args.queues.now args.count (count_low _ c.if-count-lt2.true)))
 
 pub returns-then-count : goal.returns-then-count
 returns-then-count c =
     let args = c.args in
-    told_answer_units_queues (fresh_bad args.units.now args.queues.now args.count (count_high _ c.if-count.true))
+    rw c.number-then-count.ensures
+    (told_answer_units_queues (fresh_bad args.units.now args.queues.now args.count (count_high _ c.if-count.true)))
 
 pub returns-then-units-ne-UNITS_BYTES : goal.returns-then-units-ne-UNITS_BYTES
 returns-then-units-ne-UNITS_BYTES c =
     let args = c.args in
-    told_answer_units_queues (fresh_other args.units.now args.queues.now args.count
-    (count_legal _ c.if-count-lt2.false c.if-count.false) c.if-units-ne-UNITS_BYTES.true)
+    rw c.number-then-units-ne-UNITS_BYTES.ensures
+    (told_answer_units_queues (fresh_other args.units.now args.queues.now args.count
+    (count_legal _ c.if-count-lt2.false c.if-count.false) c.if-units-ne-UNITS_BYTES.true))
 
 pub returns-then-queues-ne-NETWORK_BYTES : goal.returns-then-queues-ne-NETWORK_BYTES
 returns-then-queues-ne-NETWORK_BYTES c =
     let args = c.args in
-    told_answer_units_queues (fresh_short args.units.now args.queues.now args.count
-    (count_legal _ c.if-count-lt2.false c.if-count.false) c.if-units-ne-UNITS_BYTES.false c.if-queues-ne-NETWORK_BYTES.true)
+    rw c.number-then-queues-ne-NETWORK_BYTES.ensures
+    (told_answer_units_queues (fresh_short args.units.now args.queues.now args.count
+    (count_legal _ c.if-count-lt2.false c.if-count.false) c.if-units-ne-UNITS_BYTES.false c.if-queues-ne-NETWORK_BYTES.true))
 
 pub returns : goal.returns
 returns c =

@@ -6,7 +6,8 @@ use Rattle.border.proofs.networks.puntclover_network_state.Goals as goal
 pub returns-then-units-ne-UNITS_BYTES : goal.returns-then-units-ne-UNITS_BYTES
 returns-then-units-ne-UNITS_BYTES c =
     let args = c.args in
-    wrong_asked args.units.now (λ words. state_answer words args.queues.now args.i) c.if-units-ne-UNITS_BYTES.true
+    rw c.number.ensures
+    (wrong_asked args.units.now (λ words. state_answer words args.queues.now args.i) c.if-units-ne-UNITS_BYTES.true)
 
 pub returns : goal.returns
 returns c =

@@ -9,7 +9,9 @@ use Rattle.border.proofs.networks.puntclover_network_trace.Goals as goal
 pub returns-then-units-ne-UNITS_BYTES : goal.returns-then-units-ne-UNITS_BYTES
 returns-then-units-ne-UNITS_BYTES c =
     let args = c.args in
-    let traced : List ℕ → ℕ = λ words. trace_answer words args.queues.now args.start args.destination args.choices.now args.path.now in record { answer = wrong_asked args.units.now traced c.if-units-ne-UNITS_BYTES.true; path = wrong_path args.units.now args.queues.now args.start args.destination args.choices.now args.path.now c.if-units-ne-UNITS_BYTES.true }
+    let traced : List ℕ → ℕ = λ words. trace_answer words args.queues.now args.start args.destination args.choices.now args.path.now in
+    rw c.number.ensures
+    (record { answer = wrong_asked args.units.now traced c.if-units-ne-UNITS_BYTES.true; path = wrong_path args.units.now args.queues.now args.start args.destination args.choices.now args.path.now c.if-units-ne-UNITS_BYTES.true })
 
 pub returns : goal.returns
 returns c =

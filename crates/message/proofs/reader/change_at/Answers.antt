@@ -24,7 +24,7 @@ change_bytes bytes entries i unit head high low u h g l =
 pub returns : goal.returns
 returns c =
     change_bytes _ _ _ _ _ _ _
-    c.wide-unit.ensures.0
-    c.wide-head.ensures.0
-    c.wide-high.ensures.0
-    c.wide-low.ensures.0
+    c.from-unit.ensures
+    c.from-head.ensures
+    c.from-high.ensures
+    c.from-low.ensures

@@ -27,4 +27,4 @@ returns-then-bytes-ne1 c = simp (ne_eqb _ _ c.if-bytes-ne1.true)
 
 pub returns : goal.returns
 unfolding is_framed
-returns c = simp (eq-eqb _ _ c.if-bytes-ne1.false) (ap (λ (x : ℕ). eqb (length c.args.bytes.now) (4 + 4 * x)) c.wide.ensures.0)
+returns c = simp (eq-eqb _ _ c.if-bytes-ne1.false) (ap (λ (x : ℕ). eqb (length c.args.bytes.now) (4 + 4 * x)) c.from.ensures)

@@ -9,7 +9,7 @@ use Rattle.message.proofs.reader.read_framed.Goals as goal
 
 pub returns-then-count-entries : goal.returns-then-count-entries
 returns-then-count-entries c =
-    let many : c.args.count ≤ at c.args.bytes.now 3 = rw c.wide-entries.ensures.0 at c.if-count-entries.true in
+    let many : c.args.count ≤ at c.args.bytes.now 3 = rw c.from-entries.ensures at c.if-count-entries.true in
     told_answer_changes (as_refused _ _ AgainstTheLayout c.refused.result (heard_answer_changes c.refused.ensures) (sym (too_many_entries _ _ c.requires many)))
 
 pub slice_bounds-header_of-end : goal.slice_bounds-header_of-end
@@ -18,13 +18,13 @@ slice_bounds-header_of-end c = found_length _ _ _ c.changes_in-changes.ensures
 pub returns-in-Ok : goal.returns-in-Ok
 returns-in-Ok c =
     let found = c.changes_in-changes.ensures in
-    let answer = found_answer _ _ _ found c.args.count c.wide-entries.ensures.0 c.requires c.header_of-answer.result c.header_of-answer.ensures in
-    told_answer_changes (as_found _ _ _ found c.args.count c.wide-entries.ensures.0 c.header_of-answer.result c.in-Ok.field-0 c.in-Ok.is answer)
+    let answer = found_answer _ _ _ found c.args.count c.from-entries.ensures c.requires c.header_of-answer.result c.header_of-answer.ensures in
+    told_answer_changes (as_found _ _ _ found c.args.count c.from-entries.ensures c.header_of-answer.result c.in-Ok.field-0 c.in-Ok.is answer)
 
 pub returns-in-Err : goal.returns-in-Err
 returns-in-Err c =
     let found = c.changes_in-changes.ensures in
-    let answer = found_answer _ _ _ found c.args.count c.wide-entries.ensures.0 c.requires c.header_of-answer.result c.header_of-answer.ensures in
+    let answer = found_answer _ _ _ found c.args.count c.from-entries.ensures c.requires c.header_of-answer.result c.header_of-answer.ensures in
     told_answer_changes
     (as_refused _ _ c.in-Err.refusal c.refused-in-Err.result (heard_answer_changes c.refused-in-Err.ensures)
     (found_refusal c.args.count c.args.bytes.now c.header_of-answer.result c.in-Err.refusal c.in-Err.is answer))

@@ -1,4 +1,5 @@
 -- `meter::table::frame_in` meets its contract: the four numbers at the place, or nothing.
+use mathlib.Core.Logic.{⊎_elim}
 use mathlib.Core.Path.{ap, ◌∙◌}
 use Rattle.meter.specs.Reading.{as_read}
 use Rattle.meter.proofs.ReadFrames.{no_table, no_place, frame_read}
@@ -7,13 +8,9 @@ use Rattle.meter.proofs.table.frame_in.Goals as goal
 pub returns-then-meter-ne-METER_WORDS : goal.returns-then-meter-ne-METER_WORDS
 returns-then-meter-ne-METER_WORDS c =
     let args = c.args in
-    c.nothing.ensures ∙ ap as_read (no_table args.meter.now args.place c.if-meter-ne-METER_WORDS.true)
-
-pub returns-then-place-ge-FRAMES : goal.returns-then-place-ge-FRAMES
-returns-then-place-ge-FRAMES c =
-    let args = c.args in
-    c.nothing-then-place-ge-FRAMES.ensures
-    ∙ ap as_read (no_place args.meter.now args.place c.if-meter-ne-METER_WORDS.false c.if-place-ge-FRAMES.true)
+    c.nothing.ensures
+    ∙ ap as_read (⊎_elim (no_table args.meter.now args.place) (λ both. no_place args.meter.now args.place both.0 both.1)
+    c.then-meter-ne-METER_WORDS.either)
 
 pub returns : goal.returns
 returns c =

@@ -1,7 +1,7 @@
 -- What a unit answers, leaves and sends when a copy of its table is told of an event that it does not refuse.
 use Prim.Native.Nat.{ℕ, ◌+◌, ◌-◌, ◌≤◌, ◌<◌, min}
 use native.Mathlib.Omega.{arith}
-use mathlib.Core.Bool.{true}
+use mathlib.Core.Bool.{Bool, true, false}
 use mathlib.Core.List.{List, [], ◌∷◌, ◌++◌}
 use mathlib.Core.Logic.{◌≢◌, inl, inr, ⊎_elim}
 use mathlib.Core.Path.{◌≡◌, refl, sym, ap, ◌∙◌}
@@ -10,6 +10,7 @@ use lib.Dec.{eqb}
 use lib.ListN.{length, take, drop}
 use lib.Seq.{take_all}
 use Rattle.std.specs.Prelude.{Result, Ok, Err, IfOk}
+use Rattle.std.specs.Prelude.{if◌then◌else◌}
 use Rattle.ground.specs.Limits.{firmware_room}
 use Rattle.ground.specs.Refusal.{accepted, answer_base}
 use Rattle.ground.specs.Rows.{at, zeros}
@@ -31,7 +32,7 @@ use Rattle.unit.proofs.ReadyCalls.{ready_of}
 use Rattle.steps.proofs.SentMessages.{Reacted, reacted_to}
 use Rattle.queues.specs.Queue.{queue_of}
 use Rattle.fitness.specs.UnitTables.{table_of}
-use Rattle.events.specs.Telling.{told_as, told_by, first_in, first_answer, first_told}
+use Rattle.events.specs.Telling.{told_as, laid_as, told_by, first_in, first_answer, first_told, first_laid}
 use Rattle.events.specs.declared.tell.Told.{Told}
 use Rattle.queues.proofs.SentParcels.{Single, Parcels, sent_by, outgoing_parcels}
 use Rattle.fitness.proofs.FitTables.{laid_fit}
@@ -100,12 +101,11 @@ module _ (u : Unit) (s : ShapedUnit u) (fit : fit_unit u ≡ true) (call : HubCa
 
 -- The bytes used, the copy's new table and the buffer are those of the table.
 pub told_is : (call : HubCall) {table copy : List ℕ} → copy ≡ table → {used : ℕ} {after sent : List ℕ}
-    → (answer_base + used ≡ table_answer copy firmware_room call)
+    → (used ≡ table_answer copy firmware_room call - answer_base)
     × ((after ≡ table_after copy firmware_room call) × (sent ≡ buffer_after copy (zeros firmware_room) call))
     → ◌≡◌ {A = Told} (record { table = after; sent = sent; used = used }) (told_by table call)
 told_is call {table} {copy} e {used} {after} {sent} told =
-    let is : used ≡ table_answer copy firmware_room call - answer_base = omega (arith, told.0) in
-    (λ i. record { table = told.1.0 i; sent = told.1.1 i; used = is i }) ∙ ap (λ (t : List ℕ). told_by t call) e
+    (λ i. record { table = told.1.0 i; sent = told.1.1 i; used = told.0 i }) ∙ ap (λ (t : List ℕ). told_by t call) e
 
 -- The first numbers of a list, no more than it has.
 pub take_least : (n : ℕ) (xs : List ℕ) {m : ℕ} → length xs ≡ m → {k : ℕ} → k ≡ min n m → take k xs ≡ take n xs
@@ -123,6 +123,11 @@ module _ (words bytes : List ℕ) (a b : ℕ) {queue : List ℕ} (loaded : queue
   none_first z =
       sym (if_true (eqb (at (queue_of bytes a b) 0) 0) _ _ (eq-eqb _ 0 (ap (λ (q : List ℕ). at q 0) (sym loaded) ∙ z)))
 
+  pub none_laid : at queue 0 ≡ 0 → (held : Told) → held ≡ first_laid words bytes a b held
+  unfolding first_laid
+  none_laid z held =
+      sym (if_true (eqb (at (queue_of bytes a b) 0) 0) _ _ (eq-eqb _ 0 (ap (λ (q : List ℕ). at q 0) (sym loaded) ∙ z)))
+
   -- There is one, whose bytes are the first, no more than the queue has.
   module _ (d : at queue 0 ≢ 0) (wide : length queue ≡ queue_bytes) {long : ℕ} (n : long ≡ min (written_length (at queue 3)) queue_bytes) where
     first_is : take long queue ≡ first_in (queue_of bytes a b)
@@ -137,11 +142,25 @@ module _ (words bytes : List ℕ) (a b : ℕ) {queue : List ℕ} (loaded : queue
         ∙ sym (if_false (eqb (at (queue_of bytes a b) 0) 0) _ _
         (ne_eqb _ 0 (λ z. d (ap (λ (q : List ℕ). at q 0) loaded ∙ z))))
 
-    pub told_first : (result : Result Told Refusal)
-        → IfOk result (λ told. told ≡ told_by (table_of words b) (hub_message a (take long queue)))
-        → IfOk result (λ told. told ≡ first_told words bytes a b)
-    told_first (Ok told) e = e ∙ ap (λ (bs : List ℕ). told_by (table_of words b) (hub_message a bs)) first_is
-    told_first (Err refusal) e = e
+    pub some_laid : (held : Told) {told : Told} → told ≡ told_by (table_of words b) (hub_message a (take long queue))
+        → told ≡ first_laid words bytes a b held
+    unfolding first_laid
+    some_laid held e =
+        e
+        ∙ ap (λ (bs : List ℕ). told_by (table_of words b) (hub_message a bs)) first_is
+        ∙ sym (if_false (eqb (at (queue_of bytes a b) 0) 0) _ _
+        (ne_eqb _ 0 (λ z. d (ap (λ (q : List ℕ). at q 0) loaded ∙ z))))
+
+-- What is not refused as there is no message is told of one.
+told_of_one : (none : Bool) (answer : ℕ) {number : ℕ} (held told : Told) → number ≡ (if none then 8 else answer) → answer_base ≤ number
+    → (if none then held else told) ≡ told
+told_of_one true answer held told e l = absurd (omega (arith, e, l))
+told_of_one false answer held told e l = refl
+
+pub laid_first : (words bytes : List ℕ) (a b : ℕ) (held : Told) {number : ℕ} → number ≡ first_answer words bytes a b
+    → answer_base ≤ number → first_laid words bytes a b held ≡ first_told words bytes a b
+unfolding first_answer first_laid
+laid_first words bytes a b held e l = told_of_one (eqb (at (queue_of bytes a b) 0) 0) _ held _ e l
 
 -- No two that are told are of one number and of one table and call.
 pub told_once : (said : ℕ) (told : Told) (a b : Result Told Refusal) → told_as a ≡ said → told_as b ≡ said
@@ -150,3 +169,10 @@ told_once said told (Ok a) (Ok b) p q x y = ap Ok (x ∙ sym y)
 told_once said told (Ok a) (Err b) p q x y = absurd (omega (arith, number_below b))
 told_once said told (Err a) (Ok b) p q x y = absurd (omega (arith, number_below a))
 told_once said told (Err a) (Err b) p q x y = ap Err (number_once a b (p ∙ sym q))
+
+-- Nor any two that lay what they leave.
+pub laid_once : (said : ℕ) (one two : Told) (a b : Result (Prim.Unit {0}) Refusal) → laid_as a one ≡ said → laid_as b two ≡ said → a ≡ b
+laid_once said one two (Ok x) (Ok y) p q = refl
+laid_once said one two (Ok x) (Err b) p q = absurd (omega (arith, number_below b))
+laid_once said one two (Err a) (Ok y) p q = absurd (omega (arith, number_below a))
+laid_once said one two (Err a) (Err b) p q = ap Err (number_once a b (p ∙ sym q))

@@ -7,7 +7,7 @@ ghost use Rattle.rules.specs.Message.{written_length};
 ghost use Rattle.rules.specs.Tables.{queue_bytes};
 ghost use Rattle.unit.specs.Calls.{call_of};
 ghost use Rattle.fitness.specs.UnitTables.{table_of};
-ghost use Rattle.events.specs.Telling.{told_as, told_by, first_answer, first_told};
+ghost use Rattle.events.specs.Telling.{told_as, laid_as, told_by, nothing_told, first_answer, first_told, first_laid};
 
 use fitness::tables;
 use ground::refusals::Refusal;
@@ -24,23 +24,52 @@ pub struct Told {
     pub used: usize,
 }
 
-// Unit i is told of a call, with a message's bytes beside it.
-fn tell_bytes(words: &[u32], i: u32, call: Call, bytes: &[u8]) -> Result<Told, Refusal>
-    ensures answer { told_as result ≡ table_answer (table_of words.now i) firmware_room (call_of call bytes.now) }
-    ensures told { IfOk result (λ told. told ≡ told_by (table_of words.now i) (call_of call bytes.now)) }
+// What is told before any event: no table and no message.
+pub fn nothing() -> Told
+    ensures { result ≡ nothing_told }
 {
-    let mut table = tables::load(words, i as usize);
-    let mut sent = [0u8; FIRMWARE_ROOM];
-    let used = calls::answer(&mut table, call, bytes, &mut sent)?;
-    Ok(Told { table, sent, used })
+    Told {
+        table: [0u32; UNIT_WORDS],
+        sent: [0u8; FIRMWARE_ROOM],
+        used: 0,
+    }
 }
 
-// Unit i is told of a call that brings no bytes.
+// Unit i is told of a call, with a message's bytes beside it.
+fn tell_bytes(
+    words: &[u32],
+    i: u32,
+    call: Call,
+    bytes: &[u8],
+    told: &mut Told,
+) -> Result<(), Refusal>
+    ensures answer { laid_as result told.new ≡ table_answer (table_of words.now i) firmware_room (call_of call bytes.now) }
+    ensures told { told.new ≡ told_by (table_of words.now i) (call_of call bytes.now) }
+{
+    told.table = tables::load(words, i as usize);
+    told.sent = [0u8; FIRMWARE_ROOM];
+    told.used = 0;
+    told.used = calls::answer(&mut told.table, call, bytes, &mut told.sent)?;
+    Ok(())
+}
+
+// Unit i is told of a call that brings no bytes, and what it leaves is laid into the caller's struct: in a `Result` it would
+// stand on the stack three times on its way out.
+pub fn tell_into(words: &[u32], i: u32, call: Call, told: &mut Told) -> Result<(), Refusal>
+    ensures answer { laid_as result told.new ≡ table_answer (table_of words.now i) firmware_room (call_of call []) }
+    ensures told { told.new ≡ told_by (table_of words.now i) (call_of call []) }
+{
+    tell_bytes(words, i, call, b"", told)
+}
+
+// The same, handed out.
 pub fn tell(words: &[u32], i: u32, call: Call) -> Result<Told, Refusal>
     ensures answer { told_as result ≡ table_answer (table_of words.now i) firmware_room (call_of call []) }
     ensures told { IfOk result (λ told. told ≡ told_by (table_of words.now i) (call_of call [])) }
 {
-    tell_bytes(words, i, call, b"")
+    let mut told = nothing();
+    tell_into(words, i, call, &mut told)?;
+    Ok(told)
 }
 
 // The bytes of a queue's first message, no more than the queue has.
@@ -50,15 +79,31 @@ fn first_length(entries: u8) -> usize
     (4 + 4 * entries as usize).min(QUEUE_BYTES)
 }
 
-// Unit b is told of the first message in the queue from a, if there is one.
-pub fn tell_first(words: &[u32], queues: &[u8], a: u32, b: u32) -> Result<Told, Refusal>
-    ensures answer { told_as result ≡ first_answer words.now queues.now a b }
-    ensures told { IfOk result (λ told. told ≡ first_told words.now queues.now a b) }
+// Unit b is told of the first message in the queue from a, if there is one; else nothing is laid.
+pub fn tell_first_into(
+    words: &[u32],
+    queues: &[u8],
+    a: u32,
+    b: u32,
+    told: &mut Told,
+) -> Result<(), Refusal>
+    ensures answer { laid_as result told.new ≡ first_answer words.now queues.now a b }
+    ensures told { told.new ≡ first_laid words.now queues.now a b told.old }
 {
     let queue = queue::load(queues, a as usize, b as usize);
     if queue[0] == 0 {
         return Err(Refusal::NoMessage);
     }
     let length = first_length(queue[3]);
-    tell_bytes(words, b, Call::Message { from: a }, &queue[..length])
+    tell_bytes(words, b, Call::Message { from: a }, &queue[..length], told)
+}
+
+// The same, handed out.
+pub fn tell_first(words: &[u32], queues: &[u8], a: u32, b: u32) -> Result<Told, Refusal>
+    ensures answer { told_as result ≡ first_answer words.now queues.now a b }
+    ensures told { IfOk result (λ told. told ≡ first_told words.now queues.now a b) }
+{
+    let mut told = nothing();
+    tell_first_into(words, queues, a, b, &mut told)?;
+    Ok(told)
 }

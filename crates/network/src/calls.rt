@@ -86,8 +86,10 @@ pub fn up(
         to: a,
         cost: cost_of_b,
     };
-    let one = tell::tell(words, a, call_a)?;
-    let two = tell::tell(words, b, call_b)?;
+    let mut one = tell::nothing();
+    let mut two = tell::nothing();
+    tell::tell_into(words, a, call_a, &mut one)?;
+    tell::tell_into(words, b, call_b, &mut two)?;
     happen::at_both(words, queues, a, one, b, two, false)
 }
 
@@ -108,7 +110,8 @@ pub fn cost(
         to: b,
         cost: new_cost,
     };
-    let told = tell::tell(words, a, call)?;
+    let mut told = tell::nothing();
+    tell::tell_into(words, a, call, &mut told)?;
     happen::at_one(words, queues, b, a, told, false)
 }
 
@@ -119,8 +122,10 @@ pub fn down(words: &mut [u32], queues: &mut [u8], a: u32, b: u32) -> Result<(), 
     ensures queues { queues.new ≡ bytes_after words.old queues.old (down a b) }
 {
     check_first(words, queues, a, b, true, false)?;
-    let one = tell::tell(words, a, Call::Down { to: b })?;
-    let two = tell::tell(words, b, Call::Down { to: a })?;
+    let mut one = tell::nothing();
+    let mut two = tell::nothing();
+    tell::tell_into(words, a, Call::Down { to: b }, &mut one)?;
+    tell::tell_into(words, b, Call::Down { to: a }, &mut two)?;
     happen::at_both(words, queues, a, one, b, two, true)
 }
 
@@ -131,6 +136,7 @@ pub fn deliver(words: &mut [u32], queues: &mut [u8], a: u32, b: u32) -> Result<(
     ensures queues { queues.new ≡ bytes_after words.old queues.old (deliver a b) }
 {
     check_first(words, queues, a, b, true, false)?;
-    let told = tell::tell_first(words, queues, a, b)?;
+    let mut told = tell::nothing();
+    tell::tell_first_into(words, queues, a, b, &mut told)?;
     happen::at_one(words, queues, a, b, told, true)
 }

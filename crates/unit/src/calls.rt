@@ -62,7 +62,9 @@ fn take(unit: Held, from: u32, bytes: &[u8]) -> Noted
     }
 }
 
-// Step A of a call that nothing refuses.
+// Step A of a call that nothing refuses. It, the steps after it and the test before it are kept apart, so that none of them has
+// the others' tables beside its own on the stack.
+#[inline(never)]
 fn note(unit: Held, call: Call, bytes: &[u8]) -> Noted
     requires { Notable unit call bytes.now }
     ensures { NotedBy unit call bytes.now result }
@@ -88,6 +90,7 @@ fn note(unit: Held, call: Call, bytes: &[u8]) -> Noted
 }
 
 // Steps B to F, and the table laid anew.
+#[inline(never)]
 fn finish(
     table: &mut [u32],
     unit: Held,

@@ -77,6 +77,7 @@ fn check_first(table: &[u32], to: u32, legal: bool, asks: bool, room: usize) -> 
 }
 
 // Refusals 9 to 12 of bytes that came by an up link.
+#[inline(never)]
 fn check_content(unit: Held, from: usize, bytes: &[u8]) -> Result<(), Refusal>
     requires { FitHeld unit × (from < unit.count) }
     ensures { refused_as result ≡ content_refusal (unit_of unit) from bytes.now }
@@ -114,6 +115,7 @@ fn check_message(table: &[u32], from: u32, bytes: &[u8], room: usize) -> Result<
 }
 
 // The lowest refusal of a call.
+#[inline(never)]
 pub(crate) fn check(table: &[u32], call: Call, bytes: &[u8], room: usize) -> Result<(), Refusal>
     ensures { refused_as result ≡ table_refusal table.now room (call_of call bytes.now) }
 {

@@ -1,30 +1,20 @@
--- `events::tell::tell_first` meets its contract: the bytes that are lent are those of the queue's first message.
+-- `events::tell::tell_first` meets its contract: what was laid is handed out, unless it was refused.
 use native.Mathlib.Omega.{arith}
-use mathlib.Core.Path.{◌≡◌}
-use borrow.Author.Rules.{rules}
-use lib.ListN.{length, length-take}
-use Rattle.rules.specs.Tables.{queue_bytes}
-use Rattle.events.proofs.ToldUnit.{none_first, some_first, told_first}
+use mathlib.Core.Path.{◌∙◌}
+use Rattle.std.proofs.lemmas.Result.{err_from_is_err_and}
+use Rattle.events.proofs.ToldUnit.{laid_first}
 use Rattle.events.proofs.tell.tell_first.Goals as goal
 
-pub returns-then-queue-eq0 : goal.returns-then-queue-eq0
-returns-then-queue-eq0 c =
-    let s = c.args in
-    record { answer = none_first s.words.now s.queues.now s.a s.b c.load-queue.ensures c.if-queue-eq0.true; told = search rules }
-
-pub slice_bounds-tell_bytes-end : goal.slice_bounds-tell_bytes-end
-slice_bounds-tell_bytes-end c =
-    let wide : length c.load-queue.result ≡ queue_bytes = search rules in
-    omega (arith, length-take c.first_length-length.result c.load-queue.result)
+pub returns-in_err-tell_first_into : goal.returns-in_err-tell_first_into
+returns-in_err-tell_first_into c =
+    let exit = err_from_is_err_and c.from_residual.result c.from_residual.ensures.1 in
+    rw (exit.1, exit.2) (record { answer = c.in_err-tell_first_into.ensures.answer; told = tt })
 
 pub returns : goal.returns
 returns c =
     let s = c.args in
-    let wide : length c.load-queue.result ≡ queue_bytes = search rules in
-    let load = c.load-queue.ensures in
-    let some = c.if-queue-eq0.false in
-    let long = c.first_length-length.ensures in
+    let laid = c.in_ok-tell_first_into.ensures in
     record {
-      answer = some_first s.words.now s.queues.now s.a s.b load some wide long c.tell_bytes.ensures.answer;
-      told = told_first s.words.now s.queues.now s.a s.b load some wide long c.tell_bytes.result c.tell_bytes.ensures.told;
+      answer = laid.answer;
+      told = laid.told ∙ laid_first s.words.now s.queues.now s.a s.b _ laid.answer (omega arith);
     }

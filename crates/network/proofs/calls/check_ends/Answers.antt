@@ -1,8 +1,6 @@
 -- `network::calls::check_ends` meets its contract: each return is the refusal that the tests before it lead to.
 use native.Mathlib.Omega.{arith}
-use mathlib.Core.Bool.{true}
-use mathlib.Core.Path.{◌≡◌, sym, ◌∙◌}
-use Rattle.rules.specs.Tables.{fit_tables}
+use mathlib.Core.Path.{sym, ◌∙◌}
 use Rattle.fitness.proofs.FitTables.{fit_length}
 use Rattle.network.proofs.calls.check_ends.Goals as goal
 

@@ -16,16 +16,16 @@ returns-in_err-check_first c =
     (told_answer_words_queues (cost_refused s.words.now s.queues.now s.a s.b s.new_cost c.is_legal_cost.ensures
     c.in_err-check_first.ensures (number_some c.in_err-check_first.field-0.0)))
 
-pub returns-in_err-told : goal.returns-in_err-told
-returns-in_err-told c =
+pub returns-in_err-tell_into : goal.returns-in_err-tell_into
+returns-in_err-tell_into c =
     let s = c.args in
     absurd (cost_never s.words.now s.queues.now s.a s.b s.new_cost c.is_legal_cost.ensures
-    c.in_ok-check_first.ensures refl c.in_err-told.ensures.answer (number_below c.in_err-told.field-0.0))
+    c.in_ok-check_first.ensures refl c.in_err-tell_into.ensures.answer (number_below c.in_err-tell_into.field-0.0))
 
 pub returns : goal.returns
 returns c =
     let s = c.args in
     let event =
     cost_one s.words.now s.queues.now s.a s.b s.new_cost c.is_legal_cost.ensures
-    c.in_ok-check_first.ensures refl c.in_ok-told.ensures.told in
+    c.in_ok-check_first.ensures refl c.in_ok-tell_into.ensures.told in
     told_answer_words_queues (one_answers event s.b false event.tries.tabled (heard_answer_words_queues c.at_one.ensures))

@@ -17,24 +17,24 @@ returns-in_err-check_first c =
     (told_answer_words_queues (down_refused s.words.now s.queues.now s.a s.b
     c.in_err-check_first.ensures (number_some c.in_err-check_first.field-0.0)))
 
-pub returns-in_err-one : goal.returns-in_err-one
-returns-in_err-one c =
+pub returns-in_err-tell_into : goal.returns-in_err-tell_into
+returns-in_err-tell_into c =
     let s = c.args in
     absurd (down_never s.words.now s.queues.now s.a s.b
-    c.in_ok-check_first.ensures refl c.in_err-one.ensures.answer (number_below c.in_err-one.field-0.0))
+    c.in_ok-check_first.ensures refl c.in_err-tell_into.ensures.answer (number_below c.in_err-tell_into.field-0.0))
 
-pub returns-in_err-two : goal.returns-in_err-two
-returns-in_err-two c =
+pub returns-in_err-tell_into-2 : goal.returns-in_err-tell_into-2
+returns-in_err-tell_into-2 c =
     let s = c.args in
     absurd (down_never_back s.words.now s.queues.now s.a s.b
-    c.in_ok-check_first.ensures refl c.in_err-two.ensures.answer (number_below c.in_err-two.field-0.0))
+    c.in_ok-check_first.ensures refl c.in_err-tell_into-2.ensures.answer (number_below c.in_err-tell_into-2.field-0.0))
 
 pub returns : goal.returns
 returns c =
     let s = c.args in
     let first = c.in_ok-check_first.ensures in
     told_answer_words_queues (both-answer
-    (down_pair s.words.now s.queues.now s.a s.b first refl c.in_ok-one.ensures.told c.in_ok-two.ensures.told)
+    (down_pair s.words.now s.queues.now s.a s.b first refl c.in_ok-tell_into.ensures.told c.in_ok-tell_into-2.ensures.told)
     true
     (link_emptied s.words.now s.queues.now s.a s.b first refl)
     (heard_answer_words_queues c.at_both.ensures))

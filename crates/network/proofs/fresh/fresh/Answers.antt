@@ -1,9 +1,7 @@
 -- `network::fresh::fresh` meets its contract. The tests are the definition's, in its order.
 use native.Mathlib.Omega.{arith}
-use mathlib.Core.Bool.{true}
-use mathlib.Core.Path.{◌≡◌, sym, ap, ◌∙◌}
+use mathlib.Core.Path.{sym, ap, ◌∙◌}
 use borrow.Author.Tests.{eq-eqb, ne_eqb}
-use Rattle.ground.specs.Limits.{legal_count}
 use Rattle.ground.specs.Rows.{zeros}
 use Rattle.ground.proofs.Limits.{count_legal, count_low, count_high}
 use Rattle.rules.specs.NetworkTable.{fresh_words, fresh_bytes}

@@ -61,7 +61,10 @@ fn fit_feasible(unit: Held) -> bool
     requires { unit.count ≤ unit_limit }
     ensures { result ≡ every unit.count (fit_feasible (unit_of unit)) }
 {
-    (0..unit.count).all(|j| fit_distance(unit.me, j, unit.feasible[j]))
+    // The row alone: a closure over the whole unit would keep all of it on the stack.
+    let me = unit.me;
+    let feasible = unit.feasible;
+    (0..unit.count).all(|j| fit_distance(me, j, feasible[j]))
 }
 
 fn fit_unit(unit: Held) -> bool

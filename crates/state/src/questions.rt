@@ -101,7 +101,9 @@ fn feasible(table: &[u32], to: u32) -> Result<u32, Refusal>
 {
     check_question(table, to)?;
     let unit = held::load(table);
-    Ok(unit.feasible[to as usize])
+    // The row alone: with a place in the whole unit all of it would be kept on the stack.
+    let feasible = unit.feasible;
+    Ok(feasible[to as usize])
 }
 
 // A question whose answer stands in a row of the table as it is.

@@ -18,8 +18,8 @@ returns-in_err-check_question-clause-answer c =
 pub load-unit-requires : goal.load-unit-requires
 load-unit-requires c = loadable c.args.table.now (asked _ _ (sym c.in_ok-check_question.ensures)).fit
 
-pub bounds-unit-to : goal.bounds-unit-to
-bounds-unit-to c =
+pub bounds-feasible-to : goal.bounds-feasible-to
+bounds-feasible-to c =
     let known = asked _ _ (sym c.in_ok-check_question.ensures) in
     omega (arith, known.below, (fit_table_facts c.args.table.now known.fit).high)
 

@@ -11,7 +11,8 @@ fn word(bytes: &[u8], at: usize) -> u32
     u32::from_be_bytes([bytes[at], bytes[at + 1], bytes[at + 2], bytes[at + 3]])
 }
 
-// The numbers in the bytes, taken out of them.
+// The numbers in the bytes, taken out of them. This and `lay_numbers` stand once in the archive, and not once in each export.
+#[inline(never)]
 pub(crate) fn take_numbers(numbers: &mut [u32], bytes: &[u8])
     requires { length bytes.now ≡ 4 * length numbers.old }
     ensures { numbers.new ≡ words_of bytes.now }
@@ -22,6 +23,7 @@ pub(crate) fn take_numbers(numbers: &mut [u32], bytes: &[u8])
 }
 
 // The numbers, laid over the bytes.
+#[inline(never)]
 pub(crate) fn lay_numbers(bytes: &mut [u8], numbers: &[u32])
     requires { length bytes.old ≡ 4 * length numbers.now }
     ensures { bytes.new ≡ bytes_of numbers.now }

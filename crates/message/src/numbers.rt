@@ -41,11 +41,15 @@ pub fn read(count: u32, bytes: &[u8], fields: &mut [u32]) -> Result<usize, Refus
         return Err(Refusal::Room);
     }
     let reading = reader::read(count, bytes);
+    let Ok(header) = reading.answer else {
+        // A refusal is passed on as it is.
+        return reading.answer.and(Ok(0));
+    };
     let Header {
         kind,
         sender,
         entries,
-    } = reading.answer?;
+    } = header;
     let changes = reading.changes;
     lay_fields(kind.number(), sender, entries as u32, &changes, fields);
     Ok(entries)

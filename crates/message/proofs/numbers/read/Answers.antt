@@ -18,27 +18,26 @@ returns-then-fields-lt-FIELDS c =
     let told = short_table _ c.args.bytes.now c.args.fields.now (count_known c.args.count c.in_ok-check_count.ensures) c.if-fields-lt-FIELDS.true in
     record { answer = told.0; few = tt; fields = told.1 }
 
-pub returns-in_err-kind : goal.returns-in_err-kind
-returns-in_err-kind c =
-    let passed = err_from_is_err_and c.from_residual-in_err-kind.result c.from_residual-in_err-kind.ensures.1 in
+pub returns-in_default : goal.returns-in_default
+returns-in_default c =
     let count = count_known c.args.count c.in_ok-check_count.ensures in
-    let told = not_found _ c.args.bytes.now c.args.fields.now count c.read-reading.result c.if-fields-lt-FIELDS.false (heard_answer_changes c.read-reading.ensures) c.in_err-kind.field-0.0 c.in_err-kind.was in
-    rw (passed.1, passed.2) (record { answer = told.0; few = tt; fields = told.1 })
+    let told = not_found _ c.args.bytes.now c.args.fields.now count c.read-reading.result c.if-fields-lt-FIELDS.false (heard_answer_changes c.read-reading.ensures) c.in_default.field-0 c.in_default.is in
+    rw (c.and.ensures, c.in_default.is) (record { answer = told.0; few = tt; fields = told.1 })
 
 pub overflow_cast-entries : goal.overflow_cast-entries
 overflow_cast-entries c =
     let count = count_known c.args.count c.in_ok-check_count.ensures in
     let read = heard_answer_changes c.read-reading.ensures in
     omega
-    (arith, few _ c.args.bytes.now c.args.fields.now count c.read-reading.result c.if-fields-lt-FIELDS.false read c.in_ok-kind.field-0 c.in_ok-kind.was)
+    (arith, few _ c.args.bytes.now c.args.fields.now count c.read-reading.result c.if-fields-lt-FIELDS.false read c.in-Ok.header c.in-Ok.is)
 
 pub returns : goal.returns
 returns c =
     let count = count_known c.args.count c.in_ok-check_count.ensures in
     let read = heard_answer_changes c.read-reading.ensures in
-    let told = found _ c.args.bytes.now c.args.fields.now count c.read-reading.result c.if-fields-lt-FIELDS.false read c.in_ok-kind.field-0 c.in_ok-kind.was in
+    let told = found _ c.args.bytes.now c.args.fields.now count c.read-reading.result c.if-fields-lt-FIELDS.false read c.in-Ok.header c.in-Ok.is in
     record {
       answer = told.0;
-      few = few _ c.args.bytes.now c.args.fields.now count c.read-reading.result c.if-fields-lt-FIELDS.false read c.in_ok-kind.field-0 c.in_ok-kind.was;
+      few = few _ c.args.bytes.now c.args.fields.now count c.read-reading.result c.if-fields-lt-FIELDS.false read c.in-Ok.header c.in-Ok.is;
       fields = c.lay_fields.ensures ∙ rw c.number.ensures told.1;
     }

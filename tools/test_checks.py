@@ -143,6 +143,40 @@ pub extern "C" fn down() -> u32
 }
 
 
+GENERIC = {
+    'crates/high/src/calls.rt': GOOD['crates/high/src/calls.rt'] + """
+impl Link {
+    pub fn number(self) -> u32
+        ensures { result ≡ 1 }
+    {
+        1
+    }
+}
+
+impl From<Link> for u32 {
+    fn from(link: Link) -> u32 {
+        1
+    }
+}
+
+pub fn lay<T: Copy>(to: &mut [T])
+    ensures { to.new ≡ to.old }
+{
+}
+""",
+    'crates/high/proofs/OneOutput.antt': GOOD['crates/high/proofs/OneOutput.antt'] + """
+pub calls_Link_number_once : OneOutput said.calls.Link.number.ended calls.Link.number.Reads.Learnt
+calls_Link_number_once _ _ _ _ p q i = (agree p q i, _)
+
+module _ (T : RattleType) (laws : Laws T) (clone : Clone.Ghosts T.Denot) where
+  pub calls_lay_once : OneOutput (said.calls.lay.ended T clone)
+      (calls.lay.Reads.Learnt T laws clone)
+  calls_lay_once _ _ _ _ p q i = (_, (agree p q i, _))
+""",
+    'docs/CONTRACTS.md': GOOD['docs/CONTRACTS.md'].replace('`outside`', '`outside`, `calls::Link::number`, `calls::lay`'),
+}
+
+
 class Contracts(Repository):
     def finds(self, name, old, new, *wrong):
         """What is found when one text is exchanged for another in a file of the good repository."""
@@ -151,6 +185,15 @@ class Contracts(Repository):
         status, lines, _ = self.run_tool('check-contracts', self.root)
         self.assertEqual(lines[:-1], list(wrong))
         self.assertEqual(status, 1 if wrong else 0)
+
+    def finds_of_laws(self, old, new, wrong=None):
+        """The same in the laws of the repository with a generic function; whether what its law says is wrong, and on which line."""
+        name = 'crates/high/proofs/OneOutput.antt'
+        self.assertEqual(GENERIC[name].count(old), 1)
+        self.put({**GOOD, **GENERIC, name: GENERIC[name].replace(old, new)})
+        status, lines, _ = self.run_tool('check-contracts', self.root)
+        said = f'high: calls_lay_once does not say OneOutput said.calls.lay.ended calls.lay.Reads.Learnt ({name}:{wrong})'
+        self.assertEqual((status, lines[:-1]), (1, [said]) if wrong else (0, []))
 
     def test_good(self):
         self.put(GOOD)
@@ -224,49 +267,39 @@ class Contracts(Repository):
             self.finds('crates/high/proofs/OneOutput.antt', old, new, wrong)
 
     def test_a_method_and_a_generic_function(self):
-        more = {
-            'crates/high/src/calls.rt': GOOD['crates/high/src/calls.rt'] + """
-impl Link {
-    pub fn number(self) -> u32
-        ensures { result ≡ 1 }
-    {
-        1
-    }
-}
+        self.put({**GOOD, **GENERIC})
+        seen = 'check-contracts: 2 crates, 5 public functions, 3 must-fail edits, 0 wrong'
+        self.assertEqual(self.run_tool('check-contracts', self.root), (0, [seen], ''))
 
-impl From<Link> for u32 {
-    fn from(link: Link) -> u32 {
-        1
-    }
-}
+    def test_a_generic_law_of_something_else(self):
+        for old, new in (('Learnt T laws clone', 'Learnt T laws made'), ('said.calls.lay.ended', 'said.calls.up.ended'),
+                         ('Learnt T laws clone', 'Learnt T laws T'), ('Learnt T laws clone', 'Learnt T clone')):
+            self.finds_of_laws(old, new, 19)
 
-pub fn lay<T: Copy>(to: &mut [T])
-    ensures { to.new ≡ to.old }
-{
-}
-""",
-            'crates/high/proofs/OneOutput.antt': GOOD['crates/high/proofs/OneOutput.antt'] + """
-pub calls_Link_number_once : OneOutput said.calls.Link.number.ended calls.Link.number.Reads.Learnt
-calls_Link_number_once _ _ _ _ p q i = (agree p q i, _)
+    def test_a_generic_law_under_a_condition(self):
+        for new in ('(laws : Laws T) (false : ⊥)', '(laws false : Laws T)', '(laws : Laws T) {false : (x : T) → ⊥}',
+                    '(laws : Laws T) (laws : Laws T)', '(laws : Laws T) ((left, right) : ⊥ × ⊥)', '(laws)', ''):
+            self.finds_of_laws('(laws : Laws T)', new, 19)
+        self.finds_of_laws('(laws : Laws T)', '(laws : Laws T)\n    (false : ⊥)', 20)
+        self.finds_of_laws('\n  pub calls_lay_once', '\n mutual\n  pub calls_lay_once', 20)
+        self.finds_of_laws('\n  pub calls_lay_once', '\n module _ (false : ⊥) where\n  pub calls_lay_once', 20)
 
-module _ (T : RattleType) (laws : Laws T) (clone : Clone.Ghosts T.Denot) where
-  pub calls_lay_once : OneOutput (said.calls.lay.ended T clone)
-      (calls.lay.Reads.Learnt T laws clone)
-  calls_lay_once _ _ _ _ p q i = (_, (agree p q i, _))
-""",
-            'docs/CONTRACTS.md': GOOD['docs/CONTRACTS.md'].replace('`outside`', '`outside`, `calls::Link::number`, `calls::lay`'),
-        }
-        self.put(GOOD)
-        self.put(more)
-        status, lines, _ = self.run_tool('check-contracts', self.root)
-        self.assertEqual((status, lines), (0, ['check-contracts: 2 crates, 5 public functions, 3 must-fail edits, 0 wrong']))
+    def test_a_generic_law_under_modules(self):
+        self.finds_of_laws('(laws : Laws T)', '{laws : (x : T) → Law x}')
+        clone = ' (clone : Clone.Ghosts T.Denot) where'
+        self.finds_of_laws(clone, ' where -- More.\n module _\n     ' + clone)
+
+    def test_words_that_are_bound_elsewhere(self):
+        module = 'module _ (T : RattleType) (laws : Laws T)'
+        other = module + ' where\n  some : Laws T\n  some = laws\n'
+        self.finds_of_laws(module, other + module.replace(' (laws : Laws T)', ''), 22)
+        self.finds_of_laws(module, other + module)
+
+    def test_a_conditional_law(self):
         laws = 'crates/high/proofs/OneOutput.antt'
-        for old, new in (('Learnt T laws clone', 'Learnt T laws made'), ('said.calls.lay.ended', 'said.calls.up.ended')):
-            self.put({laws: more[laws].replace(old, new)})
-            status, lines, _ = self.run_tool('check-contracts', self.root)
-            self.assertEqual((status, lines[:-1]), (1, [
-                'high: calls_lay_once does not say OneOutput said.calls.lay.ended calls.lay.Reads.Learnt'
-                ' (crates/high/proofs/OneOutput.antt:19)']))
+        wrong = 'high: calls::down has no law calls_down_once in proofs/OneOutput.antt (crates/high/src/calls.rt:23)'
+        for module in ('module _ (false : ⊥) where', 'module _ where', 'mutual'):
+            self.finds(laws, 'pub calls_down_once', module + '\n  pub calls_down_once', wrong)
 
     def test_a_law_without_its_function(self):
         for name in ('calls_own_once', 'calls_near_once', 'calls_down_twice'):

@@ -6,7 +6,7 @@
  * A meter is one table of PUNTCLOVER_METER_BYTES bytes. puntclover_meter_fresh writes it, and from then on only calls change it.
  * It belongs to one network, whose tables every other call is lent beside it, and only reads. Each call tests all of them first,
  * and is refused with 2 if they are unfit: also where a held frame is at its destination, at a unit that is none or past its
- * hops, or where the bytes don't add up. A call takes at most some 30,000 bytes of stack.
+ * hops, or where the bytes don't add up. A call takes at most some 31,000 bytes of stack.
  *
  * A held frame has one of PUNTCLOVER_METER_FRAMES places, whose number names it until it is delivered or dropped. Then the
  * place is free, and a frame that enters takes the lowest free one.
